@@ -1,0 +1,12 @@
+pub mod Fields
+pub mod Sums
+pub mod Counts
+pub mod Places
+pub mod Powers
+pub mod Vandermonde
+pub mod Series
+pub mod Polynomials
+pub mod Massey
+pub mod Berlekamp
+pub mod Locator
+pub mod Words

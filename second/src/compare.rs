@@ -1,0 +1,259 @@
+//! Drives a trial program with requests from a seed and compares its responses, byte for byte, with our own.
+//!
+//! A new process for each batch, through pipes. Each batch ends in another way (the input just ends, an unknown job, a
+//! cut request, a list too long), after which nothing may be answered.
+
+use crate::hostile;
+use crate::rng::Rng;
+use crate::tally::Tally;
+use crate::trial::{response, Request, JOBS, MOST_BYTES, MOST_POINTS};
+use std::io::{self, Read, Write};
+use std::process::{Command, Stdio};
+use std::thread;
+
+/// Requests of a process.
+const BATCH: u64 = 1_000;
+
+/// Differences that are printed.
+const SHOWN: u64 = 10;
+
+/// Compares the first `count` requests; writes differences, a tally and `N passed, M failed`. True if none failed.
+pub fn compare(seed: u64, count: u64, jobs: &[u8], command: &[String], to: &mut impl Write) -> io::Result<bool> {
+    let (mut failed, mut tally) = (0, Tally::default());
+    for first in (0..count).step_by(BATCH as usize) {
+        let last = count.min(first + BATCH);
+        let requests: Vec<Request> = (first..last).map(|index| hostile::request(seed, index, jobs)).collect();
+        let mut input: Vec<u8> = requests.iter().flat_map(Request::to_bytes).collect();
+        input.extend(ending(&mut Rng::of_request(!seed, first)));
+        // The other program works while we do.
+        let (expected, got) = thread::scope(|scope| {
+            let other = scope.spawn(|| run(command, &input));
+            let expected: Vec<Vec<u8>> = requests.iter().map(|request| answered(request.clone(), &mut tally)).collect();
+            (expected, other.join().expect("no panic"))
+        });
+        for (number, text) in differences(&requests, &expected, &got) {
+            failed += 1;
+            if failed <= SHOWN {
+                writeln!(to, "request {} of seed {seed}: {text}", first + number as u64)?;
+            }
+        }
+    }
+    writeln!(to, "{tally}\n{} passed, {failed} failed", count - failed)?;
+    Ok(failed == 0)
+}
+
+/// The requests of a batch that were not answered as expected: their numbers, and what is different.
+fn differences(requests: &[Request], expected: &[Vec<u8>], got: &Got) -> Vec<(usize, String)> {
+    let mut found = Vec::new();
+    let mut rest = &got.output[..];
+    for (number, (request, expected)) in requests.iter().zip(expected).enumerate() {
+        let (response, after) = rest.split_at(rest.len().min(expected.len()));
+        rest = after;
+        if response != expected {
+            found.push((number, format!("{}\n{}", described(request), difference(request, expected, response))));
+        }
+    }
+    // What comes too much, and a crash, count against the last request of the batch.
+    let last = requests.len() - 1;
+    if (!rest.is_empty() || got.trouble.is_some()) && found.last().is_none_or(|(number, _)| *number != last) {
+        found.push((last, format!("after it {} bytes too many; trouble: {:?}", rest.len(), got.trouble)));
+    }
+    found
+}
+
+/// Our response to a request.
+fn answered(mut request: Request, tally: &mut Tally) -> Vec<u8> {
+    let answer = request.call();
+    let response = response(&request, answer);
+    tally.add(request.job(), response[0]);
+    response
+}
+
+/// What another program did.
+#[derive(Default)]
+struct Got {
+    output: Vec<u8>,
+    /// Why it could not be run, or that it was killed.
+    trouble: Option<String>,
+}
+
+/// Runs a program on this input.
+fn run(command: &[String], input: &[u8]) -> Got {
+    let spawned = Command::new(&command[0]).args(&command[1..]).stdin(Stdio::piped()).stdout(Stdio::piped()).spawn();
+    let mut child = match spawned {
+        Ok(child) => child,
+        Err(error) => return Got { trouble: Some(format!("{}: {error}", command[0])), ..Got::default() },
+    };
+    let mut stdin = child.stdin.take().expect("a pipe");
+    let mut stdout = child.stdout.take().expect("a pipe");
+    let mut output = Vec::new();
+    let read = thread::scope(|scope| {
+        // A program that has ended reads no more: a broken pipe is no trouble.
+        scope.spawn(move || stdin.write_all(input));
+        stdout.read_to_end(&mut output)
+    });
+    let trouble = match (read, child.wait()) {
+        (Err(error), _) | (_, Err(error)) => Some(error.to_string()),
+        (_, Ok(status)) if status.code().is_none() => Some(status.to_string()),
+        _ => None,
+    };
+    Got { output, trouble }
+}
+
+/// Bytes that end a run: none, or something that is no request, and then a good request that may not be answered.
+fn ending(rng: &mut Rng) -> Vec<u8> {
+    let good = Request::Encode { code: 9, word: vec![1; 5], out: vec![2; 5] }.to_bytes();
+    let (bytes, points) = (vec![1; MOST_BYTES + 1], vec![1; MOST_POINTS + 1]);
+    let (none, few) = (vec![], vec![]);
+    match rng.below(8) {
+        0 => vec![],
+        1 => {
+            // In the place of a job byte, or before one.
+            let skipped = rng.below(2);
+            [vec![rng.pick(&[0, 7, 8, 128, 255])], good[skipped..].to_vec(), good].concat()
+        }
+        2 => {
+            let whole = hostile::request(rng.draw(), 0, &[1, 2, 3, 4, 5, 6]).to_bytes();
+            whole[..rng.between(1, whole.len() - 1)].to_vec()
+        }
+        3 => vec![1, 1, 255, 255, 255, 255],
+        4 => [Request::Decode { code: 1, word: bytes, out: few }.to_bytes(), good].concat(),
+        5 => [Request::Decode { code: 1, word: few, out: bytes }.to_bytes(), good].concat(),
+        6 => [Request::SendA { mode: 1, frame: few, i: points, q: none }.to_bytes(), good].concat(),
+        _ => [Request::ReceiveA { mode: 1, i: none, q: points, area: few }.to_bytes(), good].concat(),
+    }
+}
+
+/// A request in a line: its job, and the lengths of its lists.
+pub fn described(request: &Request) -> String {
+    let job = JOBS[request.job() as usize - 1];
+    match request {
+        Request::Encode { code, word, out } | Request::Decode { code, word, out } => {
+            format!("{job}, code {code}, word of {}, out of {}", word.len(), out.len())
+        }
+        Request::SendA { mode, frame, i, q } => {
+            format!("{job}, mode {mode}, frame of {}, I of {}, Q of {}", frame.len(), i.len(), q.len())
+        }
+        Request::ReceiveA { mode, i, q, area } => {
+            format!("{job}, mode {mode}, I of {}, Q of {}, area of {}", i.len(), q.len(), area.len())
+        }
+        Request::SendB { mode, frame, scheme, i, q } => {
+            let lists = format!("frame of {}, scheme of {}", frame.len(), scheme.len());
+            format!("{job}, mode {mode}, {lists}, I of {}, Q of {}", i.len(), q.len())
+        }
+        Request::ReceiveB { mode, length, scheme, i, q, area } => {
+            let lists = format!("I of {}, Q of {}, area of {}", i.len(), q.len(), area.len());
+            format!("{job}, mode {mode}, frame length {length}, scheme of {}, {lists}", scheme.len())
+        }
+    }
+}
+
+/// Both heads, and the first byte where the responses part.
+fn difference(request: &Request, expected: &[u8], got: &[u8]) -> String {
+    let at = expected.iter().zip(got).position(|(e, g)| e != g).unwrap_or(got.len().min(expected.len()));
+    let heads = format!("  expected {}\n  got      {}", head(request, expected), head(request, got));
+    format!("{heads}\n  of {} bytes, {} came; first difference at {}", expected.len(), got.len(), part(request, at))
+}
+
+/// The counts that a job's response has after number and place.
+fn counts(request: &Request) -> &'static [&'static str] {
+    [&[][..], &["mended"], &[], &["mended", "protected"], &[], &["mended"]][request.job() as usize - 1]
+}
+
+/// Number, place and counts of a response, as far as it has them.
+fn head(request: &Request, response: &[u8]) -> String {
+    let Some(number) = response.first() else {
+        return "nothing".to_string();
+    };
+    let mut text = format!("number {number}");
+    for (name, eight) in ["place"].iter().chain(counts(request)).zip(response[1..].chunks_exact(8)) {
+        text += &format!(" {name} {}", u64::from_le_bytes(eight.try_into().expect("eight bytes")));
+    }
+    text
+}
+
+/// Which part of a response the byte at an offset belongs to.
+fn part(request: &Request, at: usize) -> String {
+    let mut begin = 9 + 8 * counts(request).len();
+    if at < begin {
+        return format!("byte {at}, in number, place and counts");
+    }
+    let lists: Vec<(&str, usize, usize)> = match request {
+        Request::Encode { out, .. } | Request::Decode { out, .. } => vec![("out", 1, out.len())],
+        Request::ReceiveA { area, .. } | Request::ReceiveB { area, .. } => vec![("area", 1, area.len())],
+        Request::SendA { i, q, .. } | Request::SendB { i, q, .. } => vec![("I", 2, i.len()), ("Q", 2, q.len())],
+    };
+    for (name, width, count) in lists {
+        if at < begin + 4 {
+            return format!("byte {at}, in the count of {name}");
+        }
+        if at < begin + 4 + width * count {
+            return format!("byte {at}, {name}[{}]", (at - begin - 4) / width);
+        }
+        begin += 4 + width * count;
+    }
+    format!("byte {at}, the end")
+}
+
+#[cfg(test)]
+mod tests {
+    use super::*;
+
+    fn compared(script: &str, count: u64) -> (bool, String) {
+        let command: Vec<String> = ["sh", "-c", script].map(String::from).to_vec();
+        let mut text = Vec::new();
+        let all = compare(1, count, &[1, 2], &command, &mut text).unwrap();
+        (all, String::from_utf8(text).unwrap())
+    }
+
+    #[test]
+    fn a_program_that_answers_nothing_fails_every_request() {
+        let (all, text) = compared("exit 0", 7);
+        assert!(!all && text.ends_with("0 passed, 7 failed\n"), "{text}");
+        let (all, text) = compared("cat > /dev/null; kill -9 $$", 3);
+        assert!(!all && text.ends_with("0 passed, 3 failed\n"), "{text}");
+    }
+
+    #[test]
+    fn a_program_that_is_not_there_fails_every_request() {
+        let mut text = Vec::new();
+        assert!(!compare(1, 5, &[1], &["./no-such-program".to_string()], &mut text).unwrap());
+        assert!(text.ends_with(b"0 passed, 5 failed\n"));
+    }
+
+    #[test]
+    fn endings_are_never_answered() {
+        let mut rng = Rng::new(1);
+        for _ in 0..60 {
+            let mut output = Vec::new();
+            crate::trial::run(&mut &ending(&mut rng)[..], &mut output).unwrap();
+            assert!(output.is_empty());
+        }
+    }
+
+    #[test]
+    fn too_much_output_and_a_crash_count_against_the_last_request() {
+        let requests = vec![Request::Encode { code: 0, word: vec![], out: vec![] }; 3];
+        let expected: Vec<Vec<u8>> = requests.iter().map(|r| answered(r.clone(), &mut Tally::default())).collect();
+        let mut got = Got { output: expected.concat(), trouble: None };
+        assert_eq!(differences(&requests, &expected, &got), []);
+        got.trouble = Some("killed".to_string());
+        assert_eq!(differences(&requests, &expected, &got)[0].0, 2);
+        got = Got { output: [expected.concat(), vec![0]].concat(), trouble: None };
+        assert_eq!(differences(&requests, &expected, &got)[0].0, 2);
+        got.output[0] = 7;
+        let numbers: Vec<usize> = differences(&requests, &expected, &got).iter().map(|d| d.0).collect();
+        assert_eq!(numbers, [0, 2]);
+    }
+
+    #[test]
+    fn differences_are_named() {
+        let request = Request::ReceiveA { mode: 1, i: vec![], q: vec![], area: vec![5; 3] };
+        let expected = answered(request.clone(), &mut Tally::default());
+        let mut got = expected.clone();
+        got[31] = 6;
+        assert!(difference(&request, &expected, &got).ends_with("at byte 31, area[2]"));
+        got[9] = 7;
+        assert!(difference(&request, &expected, &got).contains("number 3 place 0 mended 7 protected 0"));
+    }
+}

@@ -1,0 +1,142 @@
+//! Requests from a seed, most of them meant to break something. Each depends on the seed and its index alone.
+//!
+//! A request begins whole: a true word, burst or frame. Then come the faults it is aimed at, a fault for each refusal
+//! number, often none or one, sometimes several, so that the order of the checks shows too.
+
+mod bursts;
+mod frames;
+mod grids;
+mod lent;
+mod words;
+
+use crate::rng::Rng;
+use crate::trial::Request;
+
+/// How many of fifty requests each job gets, jobs 1 to 6.
+const SHARES: [usize; 6] = [4, 20, 4, 9, 4, 9];
+
+/// The request of this index, of one of these jobs.
+pub fn request(seed: u64, index: u64, jobs: &[u8]) -> Request {
+    let mut rng = Rng::of_request(seed, index);
+    let drawn: Vec<u8> = jobs.iter().flat_map(|&job| vec![job; SHARES[job as usize - 1]]).collect();
+    match rng.pick(&drawn) {
+        1 => words::encode(&mut rng),
+        2 => words::decode(&mut rng),
+        3 => bursts::send(&mut rng),
+        4 => bursts::receive(&mut rng),
+        5 => frames::send(&mut rng),
+        _ => frames::receive(&mut rng),
+    }
+}
+
+/// The refusal numbers a request is aimed at.
+struct Faults(Vec<u8>);
+
+impl Faults {
+    /// None in two sixths, one in two sixths, one or two in a sixth, any in a sixth.
+    fn aim(rng: &mut Rng, numbers: &[u8]) -> Faults {
+        Faults(match rng.below(6) {
+            0 | 1 => vec![],
+            2 | 3 => vec![rng.pick(numbers)],
+            4 => vec![rng.pick(numbers), rng.pick(numbers)],
+            _ => numbers.iter().copied().filter(|_| rng.once_in(3)).collect(),
+        })
+    }
+
+    fn has(&self, number: u8) -> bool {
+        self.0.contains(&number)
+    }
+}
+
+/// A mode or code that is none: the first ones beyond, the last one, or any.
+fn unknown(rng: &mut Rng, known: std::ops::RangeInclusive<u8>) -> u8 {
+    let beyond = known.end() + 1;
+    let number = match rng.below(4) {
+        0 => beyond,
+        1 => 255,
+        2 => 0,
+        _ => rng.between(beyond as usize, 255) as u8,
+    };
+    if known.contains(&number) {
+        beyond
+    } else {
+        number
+    }
+}
+
+/// Bytes of a frame: any, or all alike.
+fn bytes_of_a_frame(rng: &mut Rng, length: usize) -> Vec<u8> {
+    match rng.below(8) {
+        0 => vec![0; length],
+        1 => vec![255; length],
+        _ => rng.bytes(length),
+    }
+}
+
+/// Flips `count` different bits.
+fn flip(rng: &mut Rng, bits: &mut [u8], count: usize) {
+    for place in rng.distinct(count, bits.len()) {
+        bits[place] ^= 1;
+    }
+}
+
+/// Which of `count` things are meant: none, or at least one of them.
+fn some_of(rng: &mut Rng, count: usize, any: bool) -> Vec<bool> {
+    let chosen = if any { rng.between(1, (1 << count) - 1) } else { 0 };
+    (0..count).map(|thing| chosen >> thing & 1 == 1).collect()
+}
+
+/// A place among `count`: the first, the last, or any.
+fn place(rng: &mut Rng, count: usize) -> usize {
+    match rng.below(4) {
+        0 => 0,
+        1 => count - 1,
+        _ => rng.below(count),
+    }
+}
+
+#[cfg(test)]
+mod tests {
+    use super::*;
+    use crate::tally::Tally;
+
+    #[test]
+    fn the_same_seed_gives_the_same_requests() {
+        for index in 0..50 {
+            assert_eq!(request(9, index, &[1, 2, 3, 4, 5, 6]), request(9, index, &[1, 2, 3, 4, 5, 6]));
+        }
+        assert_ne!(request(9, 1, &[2]), request(9, 2, &[2]));
+        assert_ne!(request(9, 1, &[2]), request(10, 1, &[2]));
+    }
+
+    #[test]
+    fn every_refusal_of_every_job_comes_often() {
+        let tally = Tally::of(1, 5_000, &[1, 2, 3, 4, 5, 6]);
+        let numbers: [&[usize]; 6] = [
+            &[0, 1, 2, 3, 4],
+            &[0, 1, 2, 3, 4, 9],
+            &[0, 1, 2, 3],
+            &[0, 1, 3, 7, 8, 9, 10],
+            &[0, 1, 2, 3, 5, 6],
+            &[0, 1, 2, 3, 5, 6, 7, 8, 9],
+        ];
+        for (job, numbers) in numbers.iter().enumerate() {
+            for number in 0..=10 {
+                let seen = tally.seen[job][number];
+                assert_eq!(numbers.contains(&number), seen > 0, "job {} number {number}: {seen}", job + 1);
+                assert!(seen == 0 || seen >= 5);
+            }
+        }
+    }
+
+    #[test]
+    fn requests_are_of_moderate_size() {
+        let total: usize = (0..4_000).map(|index| request(2, index, &[1, 2, 3, 4, 5, 6]).to_bytes().len()).sum();
+        assert!(total / 4_000 < 6_000, "{}", total / 4_000);
+    }
+
+    #[test]
+    fn jobs_can_be_chosen() {
+        assert!((0..200).all(|index| [2, 5].contains(&request(3, index, &[2, 5]).job())));
+    }
+}

@@ -1,0 +1,129 @@
+//! Jobs 3 and 4: Payload A.
+
+use super::grids::{Carried, Grid};
+use super::{bytes_of_a_frame, flip, lent, place, some_of, unknown, words, Faults};
+use crate::payload_a::{coded, frame_bytes, with_check, with_fields, POINTS};
+use crate::rng::Rng;
+use crate::trial::Request;
+use crate::{bch, dqpsk, scrambler};
+
+pub fn send(rng: &mut Rng) -> Request {
+    let faults = Faults::aim(rng, &[1, 2, 3]);
+    let (mode, right) = any_mode(rng);
+    let length = if faults.has(2) { wrong_length(rng, right) } else { right };
+    let frame = bytes_of_a_frame(rng, length);
+    let short = some_of(rng, 2, faults.has(3));
+    let i = lent::levels(rng, POINTS, short[0]);
+    let q = lent::levels(rng, POINTS, short[1]);
+    Request::SendA { mode: told_mode(rng, &faults, mode), frame, i, q }
+}
+
+pub fn receive(rng: &mut Rng) -> Request {
+    let faults = Faults::aim(rng, &[1, 3, 7, 8, 9, 10]);
+    let (mode, length) = any_mode(rng);
+    let sent = damaged(rng, &faults, mode, length);
+    let mut framed = with_fields(&sent);
+    hit_fields(rng, &mut framed);
+    let mut grid = Grid::new(&dqpsk::points(&framed), Carried::Dqpsk);
+    if rng.once_in(12) {
+        let count = rng.pick(&[1, 2, 4, 8, 9, 420]);
+        grid.wander(rng, count);
+    }
+    if faults.has(8) {
+        grid.stray(rng);
+    }
+    if faults.has(7) {
+        grid.fill(rng);
+    }
+    let short = some_of(rng, 3, faults.has(3));
+    lent::fit(rng, &mut grid.i, short[0]);
+    lent::fit(rng, &mut grid.q, short[1]);
+    // Now and then the points of one mode are received in the other.
+    let mode = if rng.once_in(25) { 1 - mode } else { mode };
+    let area = lent::bytes(rng, frame_bytes(mode).expect("0 or 1"), short[2]);
+    Request::ReceiveA { mode: told_mode(rng, &faults, mode), i: grid.i, q: grid.q, area }
+}
+
+fn any_mode(rng: &mut Rng) -> (u8, usize) {
+    let mode = rng.pick(&[0, 1, 1]);
+    (mode, frame_bytes(mode).expect("0 or 1"))
+}
+
+fn told_mode(rng: &mut Rng, faults: &Faults, mode: u8) -> u8 {
+    if faults.has(1) {
+        unknown(rng, 0..=1)
+    } else {
+        mode
+    }
+}
+
+fn wrong_length(rng: &mut Rng, right: usize) -> usize {
+    let length = rng.pick(&[57, 59, 93, 95, 0, 1, 58, 94, 116, 62, 98]);
+    if length == right {
+        right - 1
+    } else {
+        length
+    }
+}
+
+/// The 784 bits of a frame, with a wrong check or hits in the two halves.
+fn damaged(rng: &mut Rng, faults: &Faults, mode: u8, length: usize) -> Vec<u8> {
+    let mut information = with_check(&bytes_of_a_frame(rng, length));
+    if faults.has(10) {
+        let count = rng.pick(&[1, 1, 2, 32, 200]);
+        match rng.below(3) {
+            0 => information[8 * length..].fill(0),
+            1 => information[8 * length + place(rng, 32)] ^= 1,
+            _ => flip(rng, &mut information, count),
+        }
+    }
+    let mut sent = coded(mode, &scrambler::scrambled(&information));
+    if mode == 1 {
+        let hopeless = some_of(rng, 2, faults.has(9));
+        let code = bch::code(3).expect("code 3");
+        for (half, hopeless) in sent.chunks_mut(code.n).zip(hopeless) {
+            if hopeless {
+                words::make_hopeless(rng, code, half);
+            } else {
+                words::make_mendable(rng, code, half);
+            }
+        }
+    } else if faults.has(9) {
+        let count = rng.between(1, 20);
+        flip(rng, &mut sent, count);
+    }
+    sent
+}
+
+/// Where the 56 protected bits stand in the 840.
+fn field_places() -> Vec<usize> {
+    (0..840).filter(|place| matches!(place % 420, 0..=9 | 206..=215 | 412..=419)).collect()
+}
+
+/// Flips protected bits: none, a few, around a dozen, or all of them.
+fn hit_fields(rng: &mut Rng, framed: &mut [u8]) {
+    let places = field_places();
+    let any = rng.between(0, places.len());
+    let count = rng.pick(&[0, 0, 0, 1, 2, 12, 13, any, any, places.len()]);
+    for chosen in rng.distinct(count, places.len()) {
+        framed[places[chosen]] ^= 1;
+    }
+}
+
+#[cfg(test)]
+mod tests {
+    use super::*;
+
+    #[test]
+    fn protected_bits_are_those_around_the_segments() {
+        let (zeros, ones) = (with_fields(&[0; 784]), with_fields(&[1; 784]));
+        let same: Vec<usize> = (0..840).filter(|&place| zeros[place] == ones[place]).collect();
+        assert_eq!(field_places(), same);
+    }
+
+    #[test]
+    fn wrong_lengths_are_wrong() {
+        let mut rng = Rng::new(1);
+        assert!((0..500).all(|_| wrong_length(&mut rng, 58) != 58 && wrong_length(&mut rng, 94) != 94));
+    }
+}

@@ -1,0 +1,139 @@
+//! What goes wrong in a grid of points: filled sub-carriers, strays, and legal points that are not those sent.
+
+use super::place;
+use crate::grid::{carriers, AVAILABLE, CARRIERS};
+use crate::points::{constellation, Point};
+use crate::rng::Rng;
+use crate::{dqpsk, grid};
+
+/// What the sub-carriers carry: DQPSK (Payload A), or a scheme (Payload B).
+pub enum Carried<'a> {
+    Dqpsk,
+    Scheme(&'a [u8]),
+}
+
+impl Carried<'_> {
+    /// Whether a point is legal for s(number + 1).
+    fn is_legal(&self, number: usize, point: Point) -> bool {
+        match self {
+            Carried::Dqpsk => dqpsk::is_legal(point),
+            Carried::Scheme(scheme) => constellation(scheme[number]).expect("2 to 10").label(point).is_some(),
+        }
+    }
+
+    /// Any legal point of s(number + 1).
+    fn any_legal(&self, rng: &mut Rng, number: usize) -> Point {
+        match self {
+            Carried::Dqpsk => rng.pick(&[(1, 0), (0, 1), (-1, 0), (0, -1)]),
+            Carried::Scheme(scheme) => rng.pick(constellation(scheme[number]).expect("2 to 10").points()),
+        }
+    }
+}
+
+/// A grid under attack: `symbols` OFDM symbols of exact length.
+pub struct Grid<'a> {
+    pub i: Vec<i16>,
+    pub q: Vec<i16>,
+    pub symbols: usize,
+    pub carried: Carried<'a>,
+}
+
+impl Grid<'_> {
+    pub fn new<'a>(points: &[Point], carried: Carried<'a>) -> Grid<'a> {
+        let symbols = points.len() / AVAILABLE;
+        let (mut i, mut q) = (vec![0; symbols * CARRIERS], vec![0; symbols * CARRIERS]);
+        grid::write(points, &mut i, &mut q);
+        Grid { i, q, symbols, carried }
+    }
+
+    fn set(&mut self, index: usize, point: Point) {
+        (self.i[index], self.q[index]) = point;
+    }
+
+    /// Puts something on one to three unavailable sub-carriers.
+    pub fn fill(&mut self, rng: &mut Rng) {
+        for _ in 0..rng.between(1, 3) {
+            let any = rng.between(106, 150);
+            let k = rng.pick(&[0, 106, 150, any, any]);
+            let index = CARRIERS * place(rng, self.symbols) + k;
+            let level = rng.level() | 1;
+            let point = rng.pick(&[(1, 0), (0, 1), (-1, 0), (level, 0), (0, level), (0, i16::MIN), (256, 256)]);
+            self.set(index, point);
+        }
+    }
+
+    /// Puts stray points on one to three available sub-carriers.
+    pub fn stray(&mut self, rng: &mut Rng) {
+        for _ in 0..rng.pick(&[1, 1, 1, 2, 3]) {
+            let (index, number) = self.carrier(rng);
+            let near = (self.i[index], self.q[index]);
+            loop {
+                let point = strange(rng, near);
+                if !self.carried.is_legal(number, point) {
+                    self.set(index, point);
+                    break;
+                }
+            }
+        }
+    }
+
+    /// Puts other legal points on some available sub-carriers.
+    pub fn wander(&mut self, rng: &mut Rng, count: usize) {
+        for _ in 0..count {
+            let (index, number) = self.carrier(rng);
+            let point = self.carried.any_legal(rng, number);
+            self.set(index, point);
+        }
+    }
+
+    /// The grid index of an available sub-carrier, at the edges or anywhere, and its s counted from 0.
+    fn carrier(&self, rng: &mut Rng) -> (usize, usize) {
+        let any = rng.below(AVAILABLE);
+        let number = rng.pick(&[0, 104, 105, 209, any, any, any, any]);
+        (CARRIERS * place(rng, self.symbols) + carriers()[number], number)
+    }
+}
+
+/// A point that is seldom legal: off by a little, off by a power of two, of any constellation, or far away.
+fn strange(rng: &mut Rng, near: Point) -> Point {
+    let (i, q) = near;
+    let power = 1i16.wrapping_shl(rng.between(5, 15) as u32);
+    let step = rng.pick(&[1, -1, 1, -1, 2, -2, 62, -62, power, power, power.wrapping_neg()]);
+    let small = |rng: &mut Rng| rng.between(0, 80) as i16 - 40;
+    match rng.below(12) {
+        0..=2 => (i.wrapping_add(step), q),
+        3..=5 => (i, q.wrapping_add(step)),
+        6 => rng.pick(&[(0, 0), (q, i), (i, 0), (0, q), (i, 0), (i.wrapping_add(2), q.wrapping_add(2))]),
+        7 => (small(rng), small(rng)),
+        8 => (rng.level(), rng.level()),
+        9 => rng.pick(&[(i16::MIN, q), (i, i16::MAX), (i16::MAX, i16::MIN), (i, i16::MIN), (i16::MAX, q)]),
+        10 => {
+            let bits = rng.between(2, 10) as u8;
+            rng.pick(constellation(bits).expect("2 to 10").points())
+        }
+        _ => (small(rng), q),
+    }
+}
+
+#[cfg(test)]
+mod tests {
+    use super::*;
+    use crate::{answer::Refusal, payload_a};
+
+    #[test]
+    fn strays_and_filled_carriers_are_found() {
+        let mut rng = Rng::new(1);
+        for _ in 0..200 {
+            let mut grid = Grid::new(&[(1, 0); 420], Carried::Dqpsk);
+            grid.wander(&mut rng, 300);
+            let answer = payload_a::receive(1, &grid.i, &grid.q, &mut [0; 58]);
+            assert_eq!(answer, Err(Refusal::Hopeless(0)));
+            grid.stray(&mut rng);
+            let answer = payload_a::receive(1, &grid.i, &grid.q, &mut [0; 58]);
+            assert!(matches!(answer, Err(Refusal::Stray(_))));
+            grid.fill(&mut rng);
+            let answer = payload_a::receive(1, &grid.i, &grid.q, &mut [0; 58]);
+            assert!(matches!(answer, Err(Refusal::Filled(_))));
+        }
+    }
+}

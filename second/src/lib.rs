@@ -1,0 +1,36 @@
+//! The independent second program of Ortkaveq: HiNoC payload coding (ITU-T J.195.2, as document 01 reads it) written
+//! a second time, in another language and by other methods than the proved crates, so that the two can be compared.
+//!
+//! In the order data flows:
+//!
+//! | module | idea |
+//! |---|---|
+//! | `answer` | document 01's refusal numbers and places |
+//! | `field`, `logs` | GF(512) by carry-less multiplication; products by logarithms built from it at start-up |
+//! | `poly`, `bch` | division of bit vectors; the three codes, decoded by Peterson's linear equations |
+//! | `points`, `dqpsk`, `grid` | Annex B as printed and its repairs; Table 1; equation 4 |
+//! | `bits`, `scrambler`, `check` | most significant bit first; clause 6.2; clause 7.4.2 |
+//! | `payload_a`, `payload_b` | the two payloads, both directions |
+//! | `trial` | the request and response format of the trial program |
+//! | `rng`, `hostile` | requests from a seed, most of them meant to break something |
+//! | `compare`, `tally`, `numbers` | driving another program; counting refusals; document 01's numbers |
+
+pub mod answer;
+pub mod bch;
+pub mod bits;
+pub mod check;
+pub mod compare;
+pub mod dqpsk;
+pub mod field;
+pub mod grid;
+pub mod hostile;
+pub mod logs;
+pub mod numbers;
+pub mod payload_a;
+pub mod payload_b;
+pub mod points;
+pub mod poly;
+pub mod rng;
+pub mod scrambler;
+pub mod tally;
+pub mod trial;

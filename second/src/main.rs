@@ -1,0 +1,125 @@
+//! The command line of the second program.
+
+use second::points::constellation;
+use second::tally::Tally;
+use second::{compare, field, hostile, numbers, trial};
+use std::io::{self, BufWriter, Write};
+use std::process::ExitCode;
+
+const USAGE: &str = "\
+second requests SEED COUNT [JOBS]               writes requests for a trial program
+second responses < REQUESTS                     writes the responses that are expected
+second compare SEED COUNT [JOBS] -- COMMAND..   drives a trial program, prints differences and 'N passed, M failed'
+second one SEED INDEX [JOBS]                    writes the single request of this index
+second tally SEED COUNT [JOBS]                  counts the refusal numbers of each job
+second numbers                                  checks document 01's numbers
+second field                                    writes all products and inverses of GF(512)
+second points                                   writes all points, and the label of every point near them
+JOBS is a string of job digits, such as 2 or 56; without it, 123456.";
+
+fn main() -> ExitCode {
+    let args: Vec<String> = std::env::args().skip(1).collect();
+    match run(&args) {
+        Ok(true) => ExitCode::SUCCESS,
+        Ok(false) => ExitCode::FAILURE,
+        // Whoever reads our output may stop reading.
+        Err(error) if error.kind() == io::ErrorKind::BrokenPipe => ExitCode::SUCCESS,
+        Err(error) => {
+            eprintln!("second: {error}");
+            ExitCode::FAILURE
+        }
+    }
+}
+
+fn run(args: &[String]) -> io::Result<bool> {
+    let mut out = BufWriter::new(io::stdout().lock());
+    let words: Vec<&str> = args.iter().map(String::as_str).collect();
+    let good = match words[..] {
+        ["requests", seed, count, ref jobs @ ..] => {
+            let (seed, count, jobs) = (number(seed)?, number(count)?, jobs_of(jobs)?);
+            for index in 0..count {
+                out.write_all(&hostile::request(seed, index, &jobs).to_bytes())?;
+            }
+            true
+        }
+        ["one", seed, index, ref jobs @ ..] => {
+            out.write_all(&hostile::request(number(seed)?, number(index)?, &jobs_of(jobs)?).to_bytes())?;
+            true
+        }
+        ["responses"] => {
+            trial::run(&mut io::stdin().lock(), &mut out)?;
+            true
+        }
+        ["compare", seed, count, ref rest @ ..] => {
+            let dashes = rest.iter().position(|&word| word == "--").ok_or_else(|| usage("no -- and command"))?;
+            let command: Vec<String> = rest[dashes + 1..].iter().map(|word| word.to_string()).collect();
+            if command.is_empty() {
+                return Err(usage("no command"));
+            }
+            compare::compare(number(seed)?, number(count)?, &jobs_of(&rest[..dashes])?, &command, &mut out)?
+        }
+        ["tally", seed, count, ref jobs @ ..] => {
+            writeln!(out, "{}", Tally::of(number(seed)?, number(count)?, &jobs_of(jobs)?))?;
+            true
+        }
+        ["numbers"] => numbers::numbers(&mut out)?,
+        ["field"] => {
+            write_field(&mut out)?;
+            true
+        }
+        ["points"] => {
+            write_points(&mut out)?;
+            true
+        }
+        _ => return Err(usage("what is to be done?")),
+    };
+    out.flush()?;
+    Ok(good)
+}
+
+fn usage(why: &str) -> io::Error {
+    io::Error::other(format!("{why}\n{USAGE}"))
+}
+
+fn number(word: &str) -> io::Result<u64> {
+    word.parse().map_err(|_| usage(&format!("{word} is no number")))
+}
+
+/// The jobs of a string of digits; all six if there is none.
+fn jobs_of(words: &[&str]) -> io::Result<Vec<u8>> {
+    let digits = match words {
+        [] => "123456",
+        [digits] => digits,
+        _ => return Err(usage("too many words")),
+    };
+    let jobs: Vec<u8> = digits.bytes().filter(|d| (b'1'..=b'6').contains(d)).map(|d| d - b'0').collect();
+    if jobs.is_empty() || jobs.len() != digits.len() {
+        return Err(usage(&format!("{digits} are no jobs")));
+    }
+    Ok(jobs)
+}
+
+/// All products, x outer and y inner, then the inverses, that of 0 being 0: two bytes each, little-endian.
+fn write_field(out: &mut impl Write) -> io::Result<()> {
+    for x in 0..field::SIZE {
+        for y in 0..field::SIZE {
+            out.write_all(&field::product(x, y).to_le_bytes())?;
+        }
+    }
+    (0..field::SIZE).try_for_each(|x| out.write_all(&field::inverse(x).to_le_bytes()))
+}
+
+/// For 2 to 10 bits: I and Q of every label, then the label (65535 for none) of each point with both levels from -40 to
+/// 40, I outer and Q inner. Two bytes each, little-endian.
+fn write_points(out: &mut impl Write) -> io::Result<()> {
+    for table in (2..=10).map(|bits| constellation(bits).expect("2 to 10")) {
+        for (i, q) in table.points() {
+            out.write_all(&i.to_le_bytes())?;
+            out.write_all(&q.to_le_bytes())?;
+        }
+        for point in (-40..=40).flat_map(|i| (-40..=40).map(move |q| (i, q))) {
+            out.write_all(&table.label(point).unwrap_or(u16::MAX).to_le_bytes())?;
+        }
+    }
+    Ok(())
+}

@@ -1,0 +1,217 @@
+//! Payload A (clause 7.4): a signalling frame of 58 bytes coded, or 94 uncoded, as two OFDM symbols of DQPSK.
+//!
+//! Sending: frame, check, scrambler, code 3 twice (mode 1), protected fields, DQPSK, grid. Receiving undoes each.
+
+use crate::answer::{check, Answer, Counts, Refusal};
+use crate::bch::{self, Code};
+use crate::bits::{self, differ};
+use crate::points::Point;
+use crate::{check as frame_check, dqpsk, grid, scrambler};
+
+/// OFDM symbols of a frame, and elements of each list of points.
+pub const SYMBOLS: usize = 2;
+pub const POINTS: usize = SYMBOLS * grid::CARRIERS;
+
+/// Bits of a segment; four segments make the 784 bits of clause 7.4.5.
+pub const SEGMENT: usize = 196;
+
+/// Table 6.
+const FIELD_1: &[u8] = &[1, 1, 1, 1, 1, 1, 1, 1, 1, 0];
+const FIELD_2: &[u8] = &[1; 10];
+const FIELD_3: &[u8] = &[1; 8];
+
+/// Bytes of a frame in this mode, if there is such a mode.
+pub fn frame_bytes(mode: u8) -> Option<usize> {
+    match mode {
+        0 => Some(94),
+        1 => Some(58),
+        _ => None,
+    }
+}
+
+/// Sends a frame into the first 512 elements of each list.
+pub fn send(mode: u8, frame: &[u8], i: &mut [i16], q: &mut [i16]) -> Answer {
+    let length = frame_bytes(mode).ok_or(Refusal::Unknown)?;
+    check(frame.len() == length, Refusal::WrongLength)?;
+    check(i.len() >= POINTS && q.len() >= POINTS, Refusal::NoRoom)?;
+    let sent = coded(mode, &scrambler::scrambled(&with_check(frame)));
+    grid::write(&dqpsk::points(&with_fields(&sent)), i, q);
+    Ok(Counts::default())
+}
+
+/// Receives the first 512 elements of each list into the first 58 or 94 bytes of the area.
+pub fn receive(mode: u8, i: &[i16], q: &[i16], area: &mut [u8]) -> Answer {
+    let length = frame_bytes(mode).ok_or(Refusal::Unknown)?;
+    check(i.len() >= POINTS && q.len() >= POINTS && area.len() >= length, Refusal::NoRoom)?;
+    grid::check_unavailable(SYMBOLS, i, q)?;
+    let (received, protected) = without_fields(&dqpsk::bits(&legal_points(i, q)?));
+    let (information, mended) = decoded(mode, &received)?;
+    let plain = scrambler::scrambled(&information);
+    let (message, sum) = plain.split_at(8 * length);
+    check(frame_check::of(message) == sum, Refusal::WrongCheck)?;
+    area[..length].copy_from_slice(&bits::to_bytes(message));
+    Ok(Counts { mended, protected })
+}
+
+/// The frame's bits and their check (clause 7.4.2).
+pub fn with_check(frame: &[u8]) -> Vec<u8> {
+    let message = bits::of_bytes(frame);
+    let sum = frame_check::of(&message);
+    [message, sum].concat()
+}
+
+/// The code of this mode's two blocks (clause 7.4.4), if it has one.
+fn code(mode: u8) -> Option<&'static Code> {
+    bch::code(3).filter(|_| mode == 1)
+}
+
+/// The 784 bits: as they are (mode 0), or two blocks of 248 coded (mode 1).
+pub fn coded(mode: u8, information: &[u8]) -> Vec<u8> {
+    code(mode).map_or(information.to_vec(), |code| code.encoded_blocks(information))
+}
+
+/// The information bits of the 784 received, and how many were mended.
+fn decoded(mode: u8, received: &[u8]) -> Result<(Vec<u8>, u64), Refusal> {
+    code(mode).map_or(Ok((received.to_vec(), 0)), |code| code.mended_blocks(received))
+}
+
+/// The four segments with the protected fields around them (Figure 11): 840 bits.
+pub fn with_fields(sent: &[u8]) -> Vec<u8> {
+    sent.chunks(2 * SEGMENT)
+        .flat_map(|two| {
+            let (first, second) = two.split_at(SEGMENT);
+            [FIELD_1, first, FIELD_2, second, FIELD_3].concat()
+        })
+        .collect()
+}
+
+/// The four segments of 840 bits, and how many of the 56 protected bits differ.
+fn without_fields(framed: &[u8]) -> (Vec<u8>, u64) {
+    let (mut segments, mut differing) = (Vec::new(), 0);
+    for symbol in framed.chunks(framed.len() / SYMBOLS) {
+        let mut rest = symbol;
+        let mut take = |count: usize| {
+            let (part, after) = rest.split_at(count);
+            rest = after;
+            part
+        };
+        differing += differ(take(FIELD_1.len()), FIELD_1);
+        segments.extend_from_slice(take(SEGMENT));
+        differing += differ(take(FIELD_2.len()), FIELD_2);
+        segments.extend_from_slice(take(SEGMENT));
+        differing += differ(take(FIELD_3.len()), FIELD_3);
+    }
+    (segments, differing as u64)
+}
+
+/// Check 8, and the 420 points in s order.
+fn legal_points(i: &[i16], q: &[i16]) -> Result<Vec<Point>, Refusal> {
+    grid::read(SYMBOLS, i, q)
+        .map(|(index, point)| if dqpsk::is_legal(point) { Ok(point) } else { Err(Refusal::Stray(index)) })
+        .collect()
+}
+
+#[cfg(test)]
+mod tests {
+    use super::*;
+    use crate::rng::Rng;
+
+    fn sent(mode: u8, frame: &[u8]) -> (Vec<i16>, Vec<i16>) {
+        let (mut i, mut q) = (vec![77; POINTS], vec![77; POINTS]);
+        send(mode, frame, &mut i, &mut q).unwrap();
+        (i, q)
+    }
+
+    #[test]
+    fn first_five_points_of_document_01() {
+        let mut rng = Rng::new(6);
+        for mode in [0, 1] {
+            let (i, q) = sent(mode, &rng.bytes(frame_bytes(mode).unwrap()));
+            let first: Vec<Point> = grid::read(2, &i, &q).map(|(_, p)| p).take(5).collect();
+            assert_eq!(first, [(-1, 0), (1, 0), (-1, 0), (1, 0), (0, -1)]);
+        }
+    }
+
+    #[test]
+    fn clean_round_trip() {
+        let mut rng = Rng::new(7);
+        for round in 0..200 {
+            let mode = round % 2;
+            let frame = rng.bytes(frame_bytes(mode).unwrap());
+            let (i, q) = sent(mode, &frame);
+            let mut area = vec![0xEE; frame.len() + 2];
+            assert_eq!(receive(mode, &i, &q, &mut area), Ok(Counts::default()));
+            assert_eq!((&area[..frame.len()], &area[frame.len()..]), (&frame[..], &[0xEE; 2][..]));
+        }
+    }
+
+    /// The points of 784 bits hit in these places, and of protected bits hit in these.
+    fn hit(frame: &[u8], places: &[usize], fields: &[usize]) -> (Vec<i16>, Vec<i16>) {
+        let mut sent = coded(1, &scrambler::scrambled(&with_check(frame)));
+        places.iter().for_each(|&p| sent[p] ^= 1);
+        let mut framed = with_fields(&sent);
+        fields.iter().for_each(|&p| framed[p] ^= 1);
+        let (mut i, mut q) = (vec![0; POINTS], vec![0; POINTS]);
+        grid::write(&dqpsk::points(&framed), &mut i, &mut q);
+        (i, q)
+    }
+
+    #[test]
+    fn sixteen_hits_in_each_half_are_mended_and_counted() {
+        let mut rng = Rng::new(8);
+        for first in 0..=17 {
+            for second in [0, 1, 15, 16, 17] {
+                let frame = rng.bytes(58);
+                let mut places = rng.distinct(first, 392);
+                places.extend(rng.distinct(second, 392).iter().map(|p| p + 392));
+                let (i, q) = hit(&frame, &places, &[0, 419, 420, 839, 206]);
+                let mut area = vec![1; 58];
+                let answer = receive(1, &i, &q, &mut area);
+                if first <= 16 && second <= 16 {
+                    assert_eq!(answer, Ok(Counts { mended: (first + second) as u64, protected: 5 }));
+                    assert_eq!(area, frame);
+                } else {
+                    assert_eq!(answer, Err(Refusal::Hopeless(if first > 16 { 0 } else { 1 })));
+                    assert_eq!(area, [1; 58]);
+                }
+            }
+        }
+    }
+
+    #[test]
+    fn refusals_in_order() {
+        let frame = [3; 58];
+        let (mut i, mut q) = sent(1, &frame);
+        let mut area = vec![9; 58];
+        assert_eq!(send(2, &frame, &mut [], &mut []), Err(Refusal::Unknown));
+        assert_eq!(send(0, &frame, &mut [], &mut []), Err(Refusal::WrongLength));
+        assert_eq!(send(1, &frame, &mut [0; 512], &mut [0; 511]), Err(Refusal::NoRoom));
+        assert_eq!(send(1, &frame, &mut [0; 511], &mut [0; 512]), Err(Refusal::NoRoom));
+        assert_eq!(receive(255, &i, &q, &mut area), Err(Refusal::Unknown));
+        assert_eq!(receive(0, &i, &q, &mut area), Err(Refusal::NoRoom));
+        assert_eq!(receive(1, &i, &q[1..], &mut area), Err(Refusal::NoRoom));
+        assert_eq!(receive(0, &i, &q, &mut [0; 94]), Err(Refusal::WrongCheck));
+        q[256 + 1] = 5;
+        assert_eq!(receive(1, &i, &q, &mut area), Err(Refusal::Stray(257)));
+        i[256 + 151] = -1;
+        q[256 + 151] = -1;
+        assert_eq!(receive(1, &i, &q, &mut area), Err(Refusal::Stray(407)));
+        i[1] = 1;
+        q[1] = 1;
+        assert_eq!(receive(1, &i, &q, &mut area), Err(Refusal::Stray(1)));
+        q[511 - 105] = 1;
+        assert_eq!(receive(1, &i, &q, &mut area), Err(Refusal::Filled(406)));
+        assert_eq!(area, [9; 58]);
+    }
+
+    #[test]
+    fn a_wrong_check_in_a_codeword_is_refused_with_10() {
+        let mut rng = Rng::new(9);
+        let mut information = with_check(&rng.bytes(58));
+        information[495] ^= 1;
+        let framed = with_fields(&coded(1, &scrambler::scrambled(&information)));
+        let (mut i, mut q) = (vec![0; POINTS], vec![0; POINTS]);
+        grid::write(&dqpsk::points(&framed), &mut i, &mut q);
+        assert_eq!(receive(1, &i, &q, &mut [0; 58]), Err(Refusal::WrongCheck));
+    }
+}

@@ -1,0 +1,249 @@
+//! The trial program's format (ARCHITECTURE.md, "The trial program"): requests in, the calls made, responses out.
+//!
+//! Integers are little-endian. A list is a 4-byte count and its elements, a byte each, or two for a level. An unknown
+//! job, a list too long for its buffer or a cut request ends the run after the responses so far.
+
+use crate::answer::Answer;
+use crate::{bch, payload_a, payload_b};
+use std::io::{self, Read, Write};
+
+/// The longest list of bits, bytes or scheme entries.
+pub const MOST_BYTES: usize = 67_300;
+
+/// The longest list of levels.
+pub const MOST_POINTS: usize = 65_600;
+
+/// A call with all it is given; lent lists as they stand before it, and once it is made, after it.
+#[derive(Clone, Debug, PartialEq, Eq)]
+pub enum Request {
+    Encode { code: u8, word: Vec<u8>, out: Vec<u8> },
+    Decode { code: u8, word: Vec<u8>, out: Vec<u8> },
+    SendA { mode: u8, frame: Vec<u8>, i: Vec<i16>, q: Vec<i16> },
+    ReceiveA { mode: u8, i: Vec<i16>, q: Vec<i16>, area: Vec<u8> },
+    SendB { mode: u8, frame: Vec<u8>, scheme: Vec<u8>, i: Vec<i16>, q: Vec<i16> },
+    ReceiveB { mode: u8, length: u64, scheme: Vec<u8>, i: Vec<i16>, q: Vec<i16>, area: Vec<u8> },
+}
+
+/// The names of jobs 1 to 6.
+pub const JOBS: [&str; 6] = ["encode", "decode", "send A", "receive A", "send B", "receive B"];
+
+impl Request {
+    /// Job 1 to 6.
+    pub fn job(&self) -> u8 {
+        match self {
+            Request::Encode { .. } => 1,
+            Request::Decode { .. } => 2,
+            Request::SendA { .. } => 3,
+            Request::ReceiveA { .. } => 4,
+            Request::SendB { .. } => 5,
+            Request::ReceiveB { .. } => 6,
+        }
+    }
+
+    /// Makes the call. The lent lists are left as the call leaves them.
+    pub fn call(&mut self) -> Answer {
+        match self {
+            Request::Encode { code, word, out } => bch::encode(*code, word, out),
+            Request::Decode { code, word, out } => bch::decode(*code, word, out),
+            Request::SendA { mode, frame, i, q } => payload_a::send(*mode, frame, i, q),
+            Request::ReceiveA { mode, i, q, area } => payload_a::receive(*mode, i, q, area),
+            Request::SendB { mode, frame, scheme, i, q } => payload_b::send(*mode, frame, scheme, i, q),
+            Request::ReceiveB { mode, length, scheme, i, q, area } => {
+                payload_b::receive(*mode, *length, scheme, i, q, area)
+            }
+        }
+    }
+
+    /// The request's bytes.
+    pub fn to_bytes(&self) -> Vec<u8> {
+        let mut to = vec![self.job()];
+        match self {
+            Request::Encode { code, word, out } | Request::Decode { code, word, out } => {
+                to.push(*code);
+                put_bytes(&mut to, word);
+                put_bytes(&mut to, out);
+            }
+            Request::SendA { mode, frame, i, q } => {
+                to.push(*mode);
+                put_bytes(&mut to, frame);
+                put_levels(&mut to, i);
+                put_levels(&mut to, q);
+            }
+            Request::ReceiveA { mode, i, q, area } => {
+                to.push(*mode);
+                put_levels(&mut to, i);
+                put_levels(&mut to, q);
+                put_bytes(&mut to, area);
+            }
+            Request::SendB { mode, frame, scheme, i, q } => {
+                to.push(*mode);
+                put_bytes(&mut to, frame);
+                put_bytes(&mut to, scheme);
+                put_levels(&mut to, i);
+                put_levels(&mut to, q);
+            }
+            Request::ReceiveB { mode, length, scheme, i, q, area } => {
+                to.push(*mode);
+                to.extend(length.to_le_bytes());
+                put_bytes(&mut to, scheme);
+                put_levels(&mut to, i);
+                put_levels(&mut to, q);
+                put_bytes(&mut to, area);
+            }
+        }
+        to
+    }
+}
+
+/// Number, place, the counts that the job has, and each lent list of a request after its call.
+pub fn response(after: &Request, answer: Answer) -> Vec<u8> {
+    let (number, place, counts) = match answer {
+        Ok(counts) => (0, 0, counts),
+        Err(refusal) => (refusal.number(), refusal.place(), Default::default()),
+    };
+    let mut to = vec![number];
+    to.extend(place.to_le_bytes());
+    if matches!(after.job(), 2 | 4 | 6) {
+        to.extend(counts.mended.to_le_bytes());
+    }
+    if after.job() == 4 {
+        to.extend(counts.protected.to_le_bytes());
+    }
+    match after {
+        Request::Encode { out, .. } | Request::Decode { out, .. } => put_bytes(&mut to, out),
+        Request::ReceiveA { area, .. } | Request::ReceiveB { area, .. } => put_bytes(&mut to, area),
+        Request::SendA { i, q, .. } | Request::SendB { i, q, .. } => {
+            put_levels(&mut to, i);
+            put_levels(&mut to, q);
+        }
+    }
+    to
+}
+
+/// The whole program: a response for each request, until the input ends or is none.
+pub fn run(from: &mut impl Read, to: &mut impl Write) -> io::Result<()> {
+    while let Some(mut request) = read_request(from) {
+        let answer = request.call();
+        to.write_all(&response(&request, answer))?;
+    }
+    to.flush()
+}
+
+/// The next request, or none at the end of the input and for anything that is no whole request.
+pub fn read_request(from: &mut impl Read) -> Option<Request> {
+    let job = byte(from)?;
+    if !(1..=6).contains(&job) {
+        return None;
+    }
+    let mode = byte(from)?;
+    Some(match job {
+        1 => Request::Encode { code: mode, word: bytes(from)?, out: bytes(from)? },
+        2 => Request::Decode { code: mode, word: bytes(from)?, out: bytes(from)? },
+        3 => Request::SendA { mode, frame: bytes(from)?, i: levels(from)?, q: levels(from)? },
+        4 => Request::ReceiveA { mode, i: levels(from)?, q: levels(from)?, area: bytes(from)? },
+        5 => Request::SendB { mode, frame: bytes(from)?, scheme: bytes(from)?, i: levels(from)?, q: levels(from)? },
+        _ => Request::ReceiveB {
+            mode,
+            length: u64::from_le_bytes(exactly(from)?),
+            scheme: bytes(from)?,
+            i: levels(from)?,
+            q: levels(from)?,
+            area: bytes(from)?,
+        },
+    })
+}
+
+fn exactly<const N: usize>(from: &mut impl Read) -> Option<[u8; N]> {
+    let mut bytes = [0; N];
+    from.read_exact(&mut bytes).ok()?;
+    Some(bytes)
+}
+
+fn byte(from: &mut impl Read) -> Option<u8> {
+    exactly::<1>(from).map(|[byte]| byte)
+}
+
+/// A count that is not above `most`.
+fn count(from: &mut impl Read, most: usize) -> Option<usize> {
+    let count = u32::from_le_bytes(exactly(from)?) as usize;
+    (count <= most).then_some(count)
+}
+
+fn bytes(from: &mut impl Read) -> Option<Vec<u8>> {
+    let mut list = vec![0; count(from, MOST_BYTES)?];
+    from.read_exact(&mut list).ok()?;
+    Some(list)
+}
+
+fn levels(from: &mut impl Read) -> Option<Vec<i16>> {
+    let mut list = vec![0; 2 * count(from, MOST_POINTS)?];
+    from.read_exact(&mut list).ok()?;
+    Some(list.chunks(2).map(|two| i16::from_le_bytes([two[0], two[1]])).collect())
+}
+
+fn put_bytes(to: &mut Vec<u8>, list: &[u8]) {
+    to.extend((list.len() as u32).to_le_bytes());
+    to.extend_from_slice(list);
+}
+
+fn put_levels(to: &mut Vec<u8>, list: &[i16]) {
+    to.extend((list.len() as u32).to_le_bytes());
+    list.iter().for_each(|level| to.extend(level.to_le_bytes()));
+}
+
+#[cfg(test)]
+mod tests {
+    use super::*;
+
+    fn ran(input: &[u8]) -> Vec<u8> {
+        let mut output = Vec::new();
+        run(&mut &input[..], &mut output).unwrap();
+        output
+    }
+
+    #[test]
+    fn bytes_of_a_request_and_its_response_by_hand() {
+        let request = [2, 1, 2, 0, 0, 0, 1, 0, 3, 0, 0, 0, 9, 8, 7];
+        let response = [[2].as_slice(), &[0; 16], &[3, 0, 0, 0, 9, 8, 7]].concat();
+        assert_eq!(ran(&request), response);
+    }
+
+    #[test]
+    fn responses_of_a_receive_carry_its_counts() {
+        let request = Request::ReceiveA { mode: 5, i: vec![], q: vec![-2], area: vec![4] };
+        assert_eq!(ran(&request.to_bytes()), [[1].as_slice(), &[0; 24], &[1, 0, 0, 0, 4]].concat());
+        let request = Request::ReceiveB { mode: 0, length: 0, scheme: vec![], i: vec![], q: vec![], area: vec![4] };
+        assert_eq!(ran(&request.to_bytes()), [[2].as_slice(), &[0; 16], &[1, 0, 0, 0, 4]].concat());
+        let request = Request::SendA { mode: 1, frame: vec![], i: vec![-2], q: vec![] };
+        assert_eq!(ran(&request.to_bytes()), [[2].as_slice(), &[0; 8], &[1, 0, 0, 0, 254, 255, 0, 0, 0, 0]].concat());
+    }
+
+    #[test]
+    fn requests_are_read_as_they_were_written() {
+        for index in 0..300 {
+            let request = crate::hostile::request(5, index, &[1, 2, 3, 4, 5, 6]);
+            assert_eq!(read_request(&mut &request.to_bytes()[..]), Some(request));
+        }
+    }
+
+    #[test]
+    fn what_is_no_request_ends_the_run() {
+        let good = Request::Encode { code: 0, word: vec![], out: vec![] }.to_bytes();
+        let once = ran(&good);
+        assert_eq!(ran(&[]), []);
+        for job in (0..=255).filter(|job| !(1..=6).contains(job)) {
+            assert_eq!(ran(&[&good, &[job][..], &good].concat()), once);
+        }
+        for cut in 1..good.len() {
+            assert_eq!(ran(&[&good, &good[..cut]].concat()), once);
+        }
+        let long = |word, out| Request::Encode { code: 0, word: vec![0; word], out: vec![0; out] }.to_bytes();
+        assert_eq!(ran(&[&good, &long(MOST_BYTES + 1, 0), &good[..]].concat()), once);
+        assert_eq!(ran(&[&good, &long(0, MOST_BYTES + 1), &good[..]].concat()), once);
+        assert_eq!(ran(&[&long(MOST_BYTES, 0), &good[..]].concat()).len(), 2 * once.len());
+        let send = |i, q| Request::SendA { mode: 9, frame: vec![], i: vec![0; i], q: vec![0; q] }.to_bytes();
+        assert_eq!(ran(&[&good, &send(MOST_POINTS + 1, 0), &good[..]].concat()), once);
+        assert_eq!(ran(&[&good, &send(0, MOST_POINTS + 1), &good[..]].concat()), once);
+        assert!(ran(&send(MOST_POINTS, MOST_POINTS)).len() > 4 * MOST_POINTS);
+    }
+}
