@@ -1,10 +1,10 @@
 -- Logarithms: every element but 0 is a^i for exactly one i below 511, and the logarithm of a product is the sum of the logarithms.
 -- Assumes nothing.
 use mathlib.Core.Path.{_≡_, refl, sym, ap, ap₂, _∙_, subst}
-use mathlib.Core.Bool.{Bool, true}
+use mathlib.Core.Bool.{Bool}
 use mathlib.Core.Logic.{_≢_}
 use Prim.Native.Nat.{ℕ, zero, suc, _+_, _<_, min}
-use native.Mathlib.Nat.{not-suc-le-zero, mod-lt, zero-lt-suc, min-eq-left, min-eq-right}
+use native.Mathlib.Nat.{mod-lt}
 use native.Mathlib.Decide.{ℕ-discrete}
 use native.Mathlib.Omega.{arith}
 use lib.Dec.{T, eqb, ltb, eqb→eq, ltb→lt, lit<}

@@ -6,7 +6,7 @@ use native.Mathlib.Nat.{mod-lt, zero-mul, one-mul, mod-mod, mod-eq-of-lt}
 use lib.Bits.{bitXor, xor-self, xor-zero-r, xor-shr, xor-mod, xor-lt}
 use lib.Dec.{T, eqb, lit<}
 use Rattle.ground.proofs.Tests.{all}
-use Rattle.ground.proofs.Xors.{by-digit, xor-double, xor-medial, xor-cancel, xor-assoc}
+use Rattle.ground.proofs.Xors.{by-digit, xor-double, xor-medial}
 use Rattle.field.specs.Field.{degree, reduction, element, sum, shifted, times, product}
 use Rattle.field.proofs.Linear.{Additive, Additive₂, Additive₃, additive-0, basis₁, basis₂, basis₃}
 use Rattle.field.proofs.Sums.{sum-comm, sum-assoc, sum-self, sum-0}

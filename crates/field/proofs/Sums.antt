@@ -1,7 +1,7 @@
 -- The laws of `sum`. They hold of all numbers, each standing for its nine low digits.
 -- Assumes nothing.
-use mathlib.Core.Path.{_≡_, refl, ap, ap₂, _∙_, sym}
-use Prim.Native.Nat.{ℕ, _%_, _<_}
+use mathlib.Core.Path.{_≡_, ap, ap₂, _∙_, sym}
+use Prim.Native.Nat.{ℕ, _<_}
 use native.Mathlib.Nat.{mod-lt, mod-mod, mod-eq-of-lt}
 use lib.Bits.{bitXor, xor-comm, xor-self, xor-zero-r, xor-lt}
 use lib.Dec.{lit<}

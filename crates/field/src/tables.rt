@@ -1,7 +1,7 @@
 // The two tables of specs/Tables.antt.
 
 // The i below 511 with a^i equal to x, at each x from 1 to 511; at 0, which has none, 1021.
-pub const LOGARITHMS: [u16; 512] = [
+pub(crate) const LOGARITHMS: [u16; 512] = [
     1021,
     0,
     1,
@@ -517,7 +517,7 @@ pub const LOGARITHMS: [u16; 512] = [
 ];
 
 // a^i at each i from 0 to 1020, the sums of two logarithms; at 1021, which stands for no sum, 0.
-pub const POWERS: [u16; 1022] = [
+pub(crate) const POWERS: [u16; 1022] = [
     1,
     2,
     4,

@@ -1,6 +1,6 @@
 -- `field::product_from` meets its contract: it reads what the definition reads.
 -- Assumes nothing.
-use mathlib.Core.Path.{_∙_, ap₂, ap}
+use mathlib.Core.Path.{_∙_, ap₂}
 use Prim.Native.Nat.{ℕ, _+_, min}
 use lib.ListN.{getD}
 use Rattle.field.specs.Tables.{productFrom}

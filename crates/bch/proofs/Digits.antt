@@ -1,0 +1,49 @@
+-- Bits, and the binary digits of numbers as lists of bits.
+-- Assumes nothing.
+use mathlib.Core.Path.{_≡_, refl, ap, _∙_}
+use mathlib.Core.List.{List, [], _∷_}
+use Prim.Native.Nat.{ℕ, zero, suc, _/_, _%_, _^_, _<_}
+use native.Mathlib.Nat.{mod-lt}
+use native.Mathlib.Omega.{arith}
+use lib.Bits.{bitXor, xor-shr, xor-mod}
+use lib.Dec.{lit<}
+use lib.ListN.{length, getD, take, drop}
+use Rattle.field.proofs.Values.{plus}
+use Rattle.bch.specs.Words.{Bits, digits}
+
+pub bits-at : (bs : List ℕ) → Bits bs → (i : ℕ) → getD bs i 0 < 2
+bits-at [] h i = lit< tt
+bits-at (b ∷ bs) h zero = h .0
+bits-at (b ∷ bs) h (suc i) = bits-at bs (h .1) i
+
+pub bits-from : (bs : List ℕ) → ((i : ℕ) → i < length bs → getD bs i 0 < 2) → Bits bs
+bits-from [] h = tt
+bits-from (b ∷ bs) h = (h zero (omega arith), bits-from bs (λ i l. h (suc i) (omega arith)))
+
+pub bits-take : (n : ℕ) (bs : List ℕ) → Bits bs → Bits (take n bs)
+bits-take zero bs h = tt
+bits-take (suc n) [] h = tt
+bits-take (suc n) (b ∷ bs) h = (h .0, bits-take n bs (h .1))
+
+pub bits-drop : (n : ℕ) (bs : List ℕ) → Bits bs → Bits (drop n bs)
+bits-drop zero bs h = h
+bits-drop (suc n) [] h = tt
+bits-drop (suc n) (b ∷ bs) h = bits-drop n bs (h .1)
+
+pub length-digits : (r x : ℕ) → length (digits r x) ≡ r
+unfolding digits
+length-digits zero x = refl
+length-digits (suc r) x = ap suc (length-digits r x)
+
+pub digits-bits : (r x : ℕ) → Bits (digits r x)
+unfolding digits
+digits-bits zero x = tt
+digits-bits (suc r) x = (mod-lt (x / 2 ^ r) (lit< tt), digits-bits r x)
+
+pub digit-xor : (r x y : ℕ) → bitXor x y / 2 ^ r % 2 ≡ bitXor (x / 2 ^ r % 2) (y / 2 ^ r % 2)
+digit-xor r x y = ap (λ (z : ℕ). z % 2) (xor-shr x y r) ∙ xor-mod (x / 2 ^ r) (y / 2 ^ r) 1
+
+pub digits-xor : (r x y : ℕ) → digits r (bitXor x y) ≡ plus (digits r x) (digits r y)
+unfolding digits plus
+digits-xor zero x y = refl
+digits-xor (suc r) x y = rw (digit-xor r x y, digits-xor r x y)

@@ -1,0 +1,120 @@
+-- What the promise means for words that were sent: encoding gives codewords; hits up to t are mended, with their count; with more than t
+-- hits the codeword that was sent is never the answer.
+-- Assumes nothing.
+use mathlib.Core.Path.{_≡_, sym, ap, _∙_}
+use mathlib.Core.Logic.{inl, inr}
+use mathlib.Core.List.{List, [], _∷_, _++_}
+use Prim.Native.Nat.{ℕ, _-_, _≤_, _<_}
+use native.Mathlib.Decide.{ℕ-discrete}
+use native.Mathlib.Omega.{arith}
+use borrow.Author.Tests.{eq-eqb, ne-eqb, lt-ltb}
+use lib.ListN.{length, take, drop, length-append}
+use lib.Seq.{take-at}
+use Rattle.bch.specs.Words.{Bits, digits, firstBad, differ}
+use Rattle.bch.specs.Remainders.{remainder}
+use Rattle.bch.specs.Codes.{Code, known, unknown, named, code1, code2, code3, encoded, Codeword, Within}
+use Rattle.bch.specs.Answers.{decodeNumber, decodeMended}
+use Rattle.bch.specs.Promise.{passes, Decodes, Decoding}
+use Rattle.bch.specs.Held.{Rooted}
+use Rattle.bch.specs.declared.Decoded.{Decoded}
+use Rattle.bch.proofs.Digits.{length-digits, digits-bits}
+use Rattle.bch.proofs.Distances.{differ-self}
+use Rattle.bch.proofs.Checks.{all-pass}
+use Rattle.bch.proofs.Generators.{rooted1, rooted2, rooted3}
+use Rattle.bch.proofs.Uniqueness.{unique}
+
+-- ---- encoding
+
+pub bits-append : (v w : List ℕ) → Bits v → Bits w → Bits (v ++ w)
+bits-append [] w hv hw = hw
+bits-append (b ∷ v) w hv hw = (hv .0, bits-append v w (hv .1) hw)
+
+pub encoded-codeword : {c : Code} → Rooted c → (m : List ℕ) → Bits m → length m ≡ c .k → Codeword c (encoded c m)
+unfolding encoded
+encoded-codeword {c} rooted m bits long =
+    let behind = digits (c .n - c .k) (remainder (c .n - c .k) (c .generator) m) in
+    let e : length behind ≡ c .n - c .k = length-digits (c .n - c .k) (remainder (c .n - c .k) (c .generator) m) in
+    let s = rooted .order in
+    record {
+      long = length-append m behind ∙ omega arith;
+      bits = bits-append m behind bits (digits-bits (c .n - c .k) (remainder (c .n - c .k) (c .generator) m));
+      made = ap (encoded c) (sym (take-at m behind (c .k) long));
+    }
+
+-- ---- the three codes by their numbers
+
+none-bad : (w : List ℕ) → Bits w → length w ≤ firstBad w
+unfolding firstBad
+none-bad [] h = omega arith
+none-bad (b ∷ w) h = let l = none-bad w (h .1) in rw (lt-ltb b 2 (h .0)) (omega arith)
+
+pub rooted-of : (number : ℕ) (c : Code) → named number ≡ known c → Rooted c
+rooted-of number c e = go (ℕ-discrete number 1) (ℕ-discrete number 2) (ℕ-discrete number 3)
+  where
+    is : (d : Code) → known d ≡ known c → Rooted d → Rooted c
+    is d s rooted = let same : d ≡ c = cc in rw same at rooted
+
+    go : Dec (number ≡ 1) → Dec (number ≡ 2) → Dec (number ≡ 3) → Rooted c
+    go (yes h) _ _ = is code1 (rw (eq-eqb number 1 h) at e) rooted1
+    go (no n1) (yes h) _ = is code2 (rw (ne-eqb number 1 n1, eq-eqb number 2 h) at e) rooted2
+    go (no n1) (no n2) (yes h) = is code3 (rw (ne-eqb number 1 n1, ne-eqb number 2 n2, eq-eqb number 3 h) at e) rooted3
+    go (no n1) (no n2) (no n3) =
+        let s : unknown ≡ known c = rw (ne-eqb number 1 n1, ne-eqb number 2 n2, ne-eqb number 3 n3) at e in
+        let z : _≡_ {A = ℕ} 0 1 = cc in
+        absurd (omega arith)
+
+module _ (number : ℕ) {c : Code} (code : named number ≡ known c) (w out : List ℕ) (bits : Bits w) (long : length w ≡ c .n) (room : c .n ≤ length out)
+    (answer : Decoded) (after : List ℕ) (decoding : Decoding number w out answer after) where
+  passed : Decodes (passes c) w out answer after
+  passed =
+      all-pass (λ k. Decodes k w out answer after → Decodes (passes c) w out answer after) (λ d. d .n) w out c long room (none-bad w bits)
+      (λ p. p) (rw code at decoding)
+
+  -- a codeword within t of the word is the answer
+  pub near-is-answered : (v : List ℕ) → Within c w v
+      → (decodeNumber answer ≡ 0) × (decodeMended answer ≡ differ v w) × (after ≡ v ++ drop (c .n) out)
+  near-is-answered v within = go passed
+    where
+      go : Decodes (passes c) w out answer after → (decodeNumber answer ≡ 0) × (decodeMended answer ≡ differ v w) × (after ≡ v ++ drop (c .n) out)
+      go (inr h) = absurd (h .none v within)
+      go (inl m) =
+          let same = unique (rooted-of number c code) long (m .within) within in (
+            m .number,
+            m .count ∙ ap (λ (l : List ℕ). differ l w) same,
+            m .left ∙ ap (λ (l : List ℕ). l ++ drop (c .n) out) same,
+          )
+
+  -- a word further than t away is not
+  pub far-is-not : (v : List ℕ) → c .t < differ v w → decodeNumber answer ≡ 0 → take (c .n) after ≡ v → ⊥
+  far-is-not v far accepted e = go passed
+    where
+      go : Decodes (passes c) w out answer after → ⊥
+      go (inr h) = let z : _≡_ {A = ℕ} 9 0 = sym (h .number) ∙ accepted in omega arith
+      go (inl m) =
+          let same : m .codeword ≡ v = sym (take-at (m .codeword) (drop (c .n) out) (c .n) (m .within .codeword .long)) ∙ ap (take (c .n)) (sym (m .left)) ∙ e in
+          let near : differ v w ≤ c .t = rw same at (m .within .near) in
+          omega arith
+
+-- ---- the sentences of demand 3, by name
+
+module _ (number : ℕ) {c : Code} (code : named number ≡ known c) (out : List ℕ) (room : c .n ≤ length out) (answer : Decoded) (after : List ℕ) where
+  -- a codeword decodes to itself, with count 0
+  pub codeword-decodes : (v : List ℕ) → Codeword c v → Decoding number v out answer after
+      → (decodeNumber answer ≡ 0) × (decodeMended answer ≡ 0) × (after ≡ v ++ drop (c .n) out)
+  codeword-decodes v codeword decoding =
+      let z = differ-self v in
+      let a = near-is-answered number code v out (codeword .bits) (codeword .long) room answer after decoding v (record { codeword = codeword; near = omega arith }) in
+      (a .0, a .1 ∙ z, a .2)
+
+  module _ (m : List ℕ) (bits : Bits m) (long : length m ≡ c .k) (w : List ℕ) (w-bits : Bits w) (w-long : length w ≡ c .n)
+      (decoding : Decoding number w out answer after) where
+    -- encode, flip any at most t places, decode: the codeword comes back, and the count is the number of flips
+    pub hits-are-mended : differ (encoded c m) w ≤ c .t
+        → (decodeNumber answer ≡ 0) × (decodeMended answer ≡ differ (encoded c m) w) × (after ≡ encoded c m ++ drop (c .n) out)
+    hits-are-mended near =
+        near-is-answered number code w out w-bits w-long room answer after decoding (encoded c m)
+        (record { codeword = encoded-codeword (rooted-of number c code) m bits long; near = near })
+
+    -- with more than t flipped, the old codeword is never the answer
+    pub hits-beyond : c .t < differ (encoded c m) w → decodeNumber answer ≡ 0 → take (c .n) after ≡ encoded c m → ⊥
+    hits-beyond far = far-is-not number code w out w-bits w-long room answer after decoding (encoded c m) far

@@ -1,0 +1,123 @@
+-- The promise leaves one answer and one memory, for every code number, word and lent list.
+-- Assumes nothing.
+use mathlib.Core.Path.{_≡_, refl, sym, ap, _∙_}
+use mathlib.Core.Logic.{inl, inr}
+use mathlib.Core.Bool.{cond}
+use mathlib.Core.List.{List, _++_}
+use Prim.Native.Nat.{ℕ, _<_}
+use native.Mathlib.Decide.{decLt, ℕ-discrete}
+use native.Mathlib.Omega.{arith}
+use lib.Dec.{eqb}
+use lib.ListN.{length, drop}
+use Rattle.bch.specs.Words.{firstBad, differ}
+use Rattle.bch.specs.Codes.{Code, known, code1, code2, code3}
+use Rattle.bch.specs.Answers.{encodeNumber, encodePlace, decodeNumber, decodePlace, decodeMended}
+use Rattle.bch.specs.Promise.{Checked, fails, passes, checkedBy, checked, Encodes, Encoding, Decodes, Decoding, Mended}
+use Rattle.bch.specs.Held.{Rooted}
+use Rattle.bch.specs.declared.Refusal.the-variants.{UnknownCode, WrongLength, NoRoom, NotABit, Uncorrectable}
+use Rattle.bch.specs.declared.Encoded.{Encoded}
+use Rattle.bch.specs.declared.Encoded.the-variants.{Accepted as Written, Refused as NotWritten}
+use Rattle.bch.specs.declared.Decoded.{Decoded}
+use Rattle.bch.specs.declared.Decoded.the-variants.{Accepted, Refused}
+use Rattle.bch.proofs.Checks.{unknown-code, wrong-length, no-room, not-a-bit, all-pass}
+use Rattle.bch.proofs.Generators.{rooted1, rooted2, rooted3}
+use Rattle.bch.proofs.Uniqueness.{unique}
+
+-- ---- an answer is its number, place and count
+
+encodeAnswer : ℕ → ℕ → Encoded
+encodeAnswer number place =
+    cond (eqb number 0) Written (cond (eqb number 1) (NotWritten UnknownCode) (cond (eqb number 2) (NotWritten WrongLength)
+    (cond (eqb number 3) (NotWritten NoRoom) (cond (eqb number 4) (NotWritten (NotABit place)) (NotWritten Uncorrectable)))))
+
+encode-answer : (a : Encoded) → encodeAnswer (encodeNumber a) (encodePlace a) ≡ a
+unfolding encodeAnswer
+encode-answer Written = refl
+encode-answer (NotWritten UnknownCode) = refl
+encode-answer (NotWritten WrongLength) = refl
+encode-answer (NotWritten NoRoom) = refl
+encode-answer (NotWritten (NotABit i)) = refl
+encode-answer (NotWritten Uncorrectable) = refl
+
+decodeAnswer : ℕ → ℕ → ℕ → Decoded
+decodeAnswer number place mended =
+    cond (eqb number 0) (Accepted mended) (cond (eqb number 1) (Refused UnknownCode) (cond (eqb number 2) (Refused WrongLength)
+    (cond (eqb number 3) (Refused NoRoom) (cond (eqb number 4) (Refused (NotABit place)) (Refused Uncorrectable)))))
+
+decode-answer : (a : Decoded) → decodeAnswer (decodeNumber a) (decodePlace a) (decodeMended a) ≡ a
+unfolding decodeAnswer
+decode-answer (Accepted m) = refl
+decode-answer (Refused UnknownCode) = refl
+decode-answer (Refused WrongLength) = refl
+decode-answer (Refused NoRoom) = refl
+decode-answer (Refused (NotABit i)) = refl
+decode-answer (Refused Uncorrectable) = refl
+
+encode-same : (a b : Encoded) → encodeNumber a ≡ encodeNumber b → encodePlace a ≡ encodePlace b → a ≡ b
+encode-same a b n p = sym (encode-answer a) ∙ cc (n, p) ∙ encode-answer b
+
+decode-same : (a b : Decoded) → decodeNumber a ≡ decodeNumber b → decodePlace a ≡ decodePlace b → decodeMended a ≡ decodeMended b → a ≡ b
+decode-same a b n p m = sym (decode-answer a) ∙ cc (n, p, m) ∙ decode-answer b
+
+-- ---- every check, and then one of the three codes
+
+module _ (P : Checked → Type 0) (size : Code → ℕ) (word out : List ℕ)
+    (failed : (number place : ℕ) → P (fails number place)) (passed : (c : Code) → Rooted c → length word ≡ size c → P (passes c)) where
+  of-code : (c : Code) → Rooted c → P (checkedBy (known c) size word out)
+  of-code c rooted = long (ℕ-discrete (length word) (size c))
+    where
+      bits : length word ≡ size c → Dec (length out < c .n) → Dec (firstBad word < length word) → P (checkedBy (known c) size word out)
+      bits e (yes l) _ = no-room P size word out c e l (failed 3 0)
+      bits e (no l) (yes b) = not-a-bit P size word out c e (omega arith) b (failed 4 (firstBad word))
+      bits e (no l) (no b) = all-pass P size word out c e (omega arith) (omega arith) (passed c rooted e)
+
+      long : Dec (length word ≡ size c) → P (checkedBy (known c) size word out)
+      long (yes e) = bits e (decLt (length out) (c .n)) (decLt (firstBad word) (length word))
+      long (no n) = wrong-length P size word out c n (failed 2 0)
+
+  pub by-check : (c : ℕ) → P (checked c size word out)
+  by-check c = go (ℕ-discrete c 1) (ℕ-discrete c 2) (ℕ-discrete c 3)
+    where
+      go : Dec (c ≡ 1) → Dec (c ≡ 2) → Dec (c ≡ 3) → P (checked c size word out)
+      go (yes e) _ _ = rw e (of-code code1 rooted1)
+      go (no _) (yes e) _ = rw e (of-code code2 rooted2)
+      go (no _) (no _) (yes e) = rw e (of-code code3 rooted3)
+      go (no n1) (no n2) (no n3) = unknown-code P size word out c n1 n2 n3 (failed 1 0)
+
+-- ---- encode
+
+module _ (word out : List ℕ) (a b : Encoded) (u v : List ℕ) where
+  abbrev SameEncoded : Checked → Type 0
+  SameEncoded k = Encodes k word out a u → Encodes k word out b v → (a ≡ b) × (u ≡ v)
+
+  pub encode-once : (c : ℕ) → Encoding c word out a u → Encoding c word out b v → (a ≡ b) × (u ≡ v)
+  encode-once =
+      by-check SameEncoded (λ d. d .k) word out
+      (λ number place p q. (encode-same a b (p .0 ∙ sym (q .0)) (p .1 ∙ sym (q .1)), p .2 ∙ sym (q .2)))
+      (λ c rooted e p q. (encode-same a b (p .0 ∙ sym (q .0)) (p .1 ∙ sym (q .1)), p .2 ∙ sym (q .2)))
+
+-- ---- decode
+
+module _ (word out : List ℕ) (a b : Decoded) (u v : List ℕ) where
+  abbrev SameDecoded : Checked → Type 0
+  SameDecoded k = Decodes k word out a u → Decodes k word out b v → (a ≡ b) × (u ≡ v)
+
+  one-mended : (c : Code) → Rooted c → length word ≡ c .n → Mended c word out a u → Mended c word out b v → (a ≡ b) × (u ≡ v)
+  one-mended c rooted e p q =
+      let same = unique rooted e (p .within) (q .within) in
+      let count : differ (p .codeword) word ≡ differ (q .codeword) word = ap (λ (l : List ℕ). differ l word) same in
+      let memory : p .codeword ++ drop (c .n) out ≡ q .codeword ++ drop (c .n) out = ap (λ (l : List ℕ). l ++ drop (c .n) out) same in
+      (decode-same a b (p .number ∙ sym (q .number)) (p .place ∙ sym (q .place)) (p .count ∙ count ∙ sym (q .count)), p .left ∙ memory ∙ sym (q .left))
+
+  one-answer : (c : Code) → Rooted c → length word ≡ c .n → SameDecoded (passes c)
+  one-answer c rooted e (inl p) (inl q) = one-mended c rooted e p q
+  one-answer c rooted e (inl p) (inr q) = absurd (q .none (p .codeword) (p .within))
+  one-answer c rooted e (inr p) (inl q) = absurd (p .none (q .codeword) (q .within))
+  one-answer c rooted e (inr p) (inr q) =
+      (decode-same a b (p .number ∙ sym (q .number)) (p .place ∙ sym (q .place)) (p .count ∙ sym (q .count)), p .left ∙ sym (q .left))
+
+  pub decode-once : (c : ℕ) → Decoding c word out a u → Decoding c word out b v → (a ≡ b) × (u ≡ v)
+  decode-once =
+      by-check SameDecoded (λ d. d .n) word out
+      (λ number place p q. (decode-same a b (p .0 ∙ sym (q .0)) (p .1 ∙ sym (q .1)) (p .2 ∙ sym (q .2)), p .3 ∙ sym (q .3)))
+      one-answer

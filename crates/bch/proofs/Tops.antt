@@ -1,0 +1,103 @@
+-- Bits at the top of 192 digits: read off, put there, and as the digits of a number.
+-- Assumes nothing.
+use mathlib.Core.Path.{_≡_, refl, sym, ap, ap₂, _∙_}
+use mathlib.Core.List.{List, [], _∷_}
+use Prim.Native.Nat.{ℕ, zero, suc, _+_, _-_, _*_, _/_, _%_, _^_, _≤_, _<_}
+use native.Mathlib.Omega.{arith}
+use native.Mathlib.Nat.{le-refl, mod-eq-of-lt, mul-assoc, zero-mul, zero-mod, mod-one, mul-add-mod-self-right}
+use native.Mathlib.Numerals.{one-add}
+use lib.Arith.{digits-lt, digits-mod}
+use lib.Bits.{bitXor, shifted-half, xor-shr, xor-mod}
+use lib.ListN.{length}
+use lib.Pow.{pow-pos, pow-add, shl-shr, shr-shr, shr-lt, high, field, mod-pow-add, mod-mod-pow}
+use Rattle.ground.proofs.Xors.{xor-double}
+use Rattle.bch.specs.Words.{Bits, digits}
+use Rattle.bch.specs.Registers.{tops, packed}
+use Rattle.field.proofs.Values.{plus}
+use Rattle.bch.proofs.Remainders.{halved}
+
+digit-mod : (m e x : ℕ) → m < e → x % 2 ^ e / 2 ^ m % 2 ≡ x / 2 ^ m % 2
+digit-mod m e x h =
+    let s : e - suc m + 1 + m ≡ e = omega arith in
+    ap (λ (n : ℕ). x % 2 ^ n / 2 ^ m % 2) (sym s) ∙ ap (λ (n : ℕ). n % 2) (field x (e - suc m + 1) m) ∙ mod-mod-pow (x / 2 ^ m) (e - suc m) 1
+
+digits-mod-pow : (m e x : ℕ) → m ≤ e → digits m (x % 2 ^ e) ≡ digits m x
+unfolding digits
+digits-mod-pow zero e x h = refl
+digits-mod-pow (suc m) e x h = ap₂ _∷_ (digit-mod m e x h) (digits-mod-pow m e x (omega arith))
+
+-- ---- the top of a register
+
+pub tops-length : (m x : ℕ) → length (tops m x) ≡ m
+unfolding tops
+tops-length zero x = refl
+tops-length (suc m) x = ap suc (tops-length m (x * 2 % 2 ^ 192))
+
+tops-shifted : (m k x : ℕ) → m + k ≡ 192 → tops m x ≡ digits m (x / 2 ^ k)
+unfolding tops digits
+tops-shifted zero k x h = refl
+tops-shifted (suc m) k x h =
+    ap₂ _∷_ head
+    (tops-shifted m (suc k) (x * 2 % 2 ^ 192) (omega arith) ∙ ap (digits m) tail ∙ digits-mod-pow m m (x / 2 ^ k) (le-refl m))
+  where
+    head : x / 2 ^ 191 % 2 ≡ x / 2 ^ k / 2 ^ m % 2
+    head =
+        let s : 191 ≡ k + m = omega arith in
+        ap (λ (n : ℕ). x / 2 ^ n % 2) s ∙ ap (λ (n : ℕ). n % 2) (sym (shr-shr x k m))
+
+    tail : x * 2 % 2 ^ 192 / 2 ^ suc k ≡ x / 2 ^ k % 2 ^ m
+    tail =
+        let s : 192 ≡ m + suc k = omega arith in
+        ap (λ (n : ℕ). x * 2 % 2 ^ n / 2 ^ suc k) s ∙ field (x * 2) m (suc k) ∙ ap (λ (n : ℕ). n % 2 ^ m) (halved k x)
+
+pub digits-tops : (r x : ℕ) → r ≤ 192 → digits r x ≡ tops r (x * 2 ^ (192 - r))
+digits-tops r x h = sym (tops-shifted r (192 - r) (x * 2 ^ (192 - r)) (omega arith) ∙ ap (digits r) (shl-shr x (192 - r)))
+
+pub tops-xor : (m x y : ℕ) → tops m (bitXor x y) ≡ plus (tops m x) (tops m y)
+unfolding tops plus
+tops-xor zero x y = refl
+tops-xor (suc m) x y =
+    ap₂ _∷_ (ap (λ (n : ℕ). n % 2) (xor-shr x y 191) ∙ xor-mod (x / 2 ^ 191) (y / 2 ^ 191) 1)
+    (ap (λ (n : ℕ). tops m (n % 2 ^ 192)) (xor-double x y) ∙ ap (tops m) (xor-mod (x * 2) (y * 2) 192)
+    ∙ tops-xor m (x * 2 % 2 ^ 192) (y * 2 % 2 ^ 192))
+
+-- ---- bits at the top of a register
+
+pub packed-lt : (bs : List ℕ) → Bits bs → packed bs < 2 ^ 192
+unfolding packed
+packed-lt [] bits = pow-pos 192
+packed-lt (b ∷ bs) bits = digits-lt (bits .0) (shr-lt 191 1 (packed-lt bs (bits .1)))
+
+shifted-digits : (r k x : ℕ) → r + k ≡ 192 → packed (digits r x) ≡ x % 2 ^ r * 2 ^ k
+unfolding packed digits
+shifted-digits zero k x h = rw (mod-one x) (sym (zero-mul (2 ^ k)))
+shifted-digits (suc r) k x h =
+    let d = x / 2 ^ r % 2 in
+    let s : 191 ≡ r + k = omega arith in
+    let p : d * 2 ^ 191 ≡ d * (2 ^ r * 2 ^ k) = ap (λ (n : ℕ). d * 2 ^ n) s ∙ ap (λ (n : ℕ). d * n) (pow-add 2 r k) in
+    ap₂ _+_ p (ap (λ (n : ℕ). n / 2) (shifted-digits r (suc k) x (omega arith)) ∙ shifted-half (x % 2 ^ r) k)
+    ∙ omega (arith, ap (λ (n : ℕ). n * 2 ^ k) (rw one-add at (mod-pow-add x 1 r)))
+
+pub packed-digits : (r x : ℕ) → r ≤ 192 → x < 2 ^ r → packed (digits r x) ≡ x * 2 ^ (192 - r)
+packed-digits r x h l = shifted-digits r (192 - r) x (omega arith) ∙ ap (λ (n : ℕ). n * 2 ^ (192 - r)) (mod-eq-of-lt l)
+
+-- what stands at the top has zeros below
+packed-below : (bs : List ℕ) (k : ℕ) → length bs + k ≤ 192 → packed bs % 2 ^ k ≡ 0
+unfolding packed
+packed-below [] k h = zero-mod (2 ^ k)
+packed-below (b ∷ bs) k h =
+    let s : 191 ≡ 191 - k + k = omega arith in
+    let p : b * 2 ^ 191 ≡ b * 2 ^ (191 - k) * 2 ^ k
+    = ap (λ (n : ℕ). b * 2 ^ n) s ∙ ap (λ (n : ℕ). b * n) (pow-add 2 (191 - k) k) ∙ sym (mul-assoc b (2 ^ (191 - k)) (2 ^ k)) in
+    rw (p, mul-add-mod-self-right (b * 2 ^ (191 - k)) (2 ^ k) (packed bs / 2), ← (field (packed bs) k 1), packed-below bs (k + 1) (omega arith))
+
+unpacked : (K b p : ℕ) → p < K * 2 → p % 2 ≡ 0 → (b * K + p / 2) * 2 % (K * 2) ≡ p
+unpacked K b p l e = let s : (b * K + p / 2) * 2 ≡ b * (K * 2) + p = omega arith in rw s (digits-mod b l)
+
+pub tops-packed : (bs : List ℕ) → Bits bs → length bs ≤ 192 → tops (length bs) (packed bs) ≡ bs
+unfolding tops packed
+tops-packed [] bits h = refl
+tops-packed (b ∷ bs) bits h =
+    ap₂ _∷_ (ap (λ (n : ℕ). n % 2) (high b 191 (shr-lt 191 1 (packed-lt bs (bits .1)))) ∙ mod-eq-of-lt (bits .0))
+    (ap (tops (length bs)) (unpacked (2 ^ 191) b (packed bs) (packed-lt bs (bits .1)) (packed-below bs 1 (omega arith)))
+    ∙ tops-packed bs (bits .1) (omega arith))

@@ -1,0 +1,73 @@
+-- What encode and decode promise: for every code number, word and lent list, the answer and what the list holds after.
+-- Demand 3 is `Mended` and `Hopeless`: a codeword is answered exactly when one lies within t.
+-- Assumes nothing.
+use mathlib.Core.Path.{_≡_}
+use mathlib.Core.Logic.{_⊎_}
+use mathlib.Core.List.{List, _++_}
+use Prim.Native.Nat.{ℕ}
+use lib.Dec.{eqb, ltb}
+use lib.ListN.{length, drop}
+use mathlib.Core.Bool.{cond}
+use Rattle.bch.specs.Words.{firstBad, differ}
+use Rattle.bch.specs.Codes.{Code, Named, known, unknown, named, encoded, Within}
+use Rattle.bch.specs.Answers.{encodeNumber, encodePlace, decodeNumber, decodePlace, decodeMended}
+use Rattle.bch.specs.declared.Encoded.{Encoded}
+use Rattle.bch.specs.declared.Decoded.{Decoded}
+
+-- ---- the checks 1, 2, 3 and 4
+
+-- the number and place of the first that fails, or the code
+pub data Checked : Type 0 where
+  fails : ℕ → ℕ → Checked
+  passes : Code → Checked
+
+-- for a word that should have `size` bits, and a lent list that should have n elements or more
+abbrev pub checkedBy : Named → (Code → ℕ) → List ℕ → List ℕ → Checked
+checkedBy unknown size word out = fails 1 0
+checkedBy (known c) size word out =
+    cond (eqb (length word) (size c))
+    (cond (ltb (length out) (c .n)) (fails 3 0) (cond (ltb (firstBad word) (length word)) (fails 4 (firstBad word)) (passes c)))
+    (fails 2 0)
+
+abbrev pub checked : ℕ → (Code → ℕ) → List ℕ → List ℕ → Checked
+checked c = checkedBy (named c)
+
+-- ---- encode
+
+abbrev pub Encodes : Checked → List ℕ → List ℕ → Encoded → List ℕ → Type 0
+Encodes (fails number place) word out answer after =
+    (encodeNumber answer ≡ number) × (encodePlace answer ≡ place) × (after ≡ out)
+Encodes (passes c) word out answer after =
+    (encodeNumber answer ≡ 0) × (encodePlace answer ≡ 0) × (after ≡ encoded c word ++ drop (c .n) out)
+
+-- encode(c, word, out): the answer, and `out` after
+abbrev pub Encoding : ℕ → List ℕ → List ℕ → Encoded → List ℕ → Type 0
+Encoding c word out = Encodes (checked c (λ d. d .k) word out) word out
+
+-- ---- decode
+
+-- some codeword lies within t of the word: it is answered, and the count is the number of places that differ
+pub record Mended (c : Code) (word out : List ℕ) (answer : Decoded) (after : List ℕ) : Type 0 where
+  pub codeword : List ℕ
+  pub within : Within c word codeword
+  pub number : decodeNumber answer ≡ 0
+  pub place : decodePlace answer ≡ 0
+  pub count : decodeMended answer ≡ differ codeword word
+  pub left : after ≡ codeword ++ drop (c .n) out
+
+-- no codeword lies within t of the word: it is refused as uncorrectable, and nothing is changed
+pub record Hopeless (c : Code) (word out : List ℕ) (answer : Decoded) (after : List ℕ) : Type 0 where
+  pub none : (v : List ℕ) → Within c word v → ⊥
+  pub number : decodeNumber answer ≡ 9
+  pub place : decodePlace answer ≡ 0
+  pub count : decodeMended answer ≡ 0
+  pub left : after ≡ out
+
+abbrev pub Decodes : Checked → List ℕ → List ℕ → Decoded → List ℕ → Type 0
+Decodes (fails number place) word out answer after =
+    (decodeNumber answer ≡ number) × (decodePlace answer ≡ place) × (decodeMended answer ≡ 0) × (after ≡ out)
+Decodes (passes c) word out answer after = Mended c word out answer after ⊎ Hopeless c word out answer after
+
+-- decode(c, word, out): the answer, and `out` after
+abbrev pub Decoding : ℕ → List ℕ → List ℕ → Decoded → List ℕ → Type 0
+Decoding c word out = Decodes (checked c (λ d. d .n) word out) word out

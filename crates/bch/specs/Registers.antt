@@ -1,0 +1,24 @@
+-- How the code holds a remainder: at the top of a register of 192 binary digits.
+-- The promise of encode and decode rests on nothing here: it is what the private functions promise one another.
+-- Assumes nothing.
+use mathlib.Core.List.{List, [], _∷_}
+use Prim.Native.Nat.{ℕ, zero, suc, _+_, _*_, _/_, _%_, _^_}
+use Rattle.bch.specs.declared.register.Register.{Register}
+
+-- the number of a register's 192 digits
+abbrev pub number : Register → ℕ
+number r = (r .high * 2 ^ 64 + r .mid) * 2 ^ 64 + r .low
+
+-- the m highest of 192 digits, the highest first
+unfoldable pub tops : ℕ → ℕ → List ℕ
+tops zero x = []
+tops (suc m) x = x / 2 ^ 191 % 2 ∷ tops m (x * 2 % 2 ^ 192)
+
+-- bits at the top of 192 digits
+unfoldable pub packed : List ℕ → ℕ
+packed [] = 0
+packed (b ∷ bs) = b * 2 ^ 191 + packed bs / 2
+
+-- the generator that a register holds without its highest digit
+abbrev pub whole : Register → ℕ
+whole g = 2 ^ 192 + number g

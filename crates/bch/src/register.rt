@@ -1,0 +1,130 @@
+// A register of 192 binary digits in three machine words, the highest first. A remainder of r digits stands at its top, with zeros below,
+// so that one step serves all three codes.
+ghost use mathlib.Core.Path.{_≡_};
+ghost use Prim.Native.Nat.{_+_, _*_, _/_, _%_, _^_, _<_};
+ghost use lib.Bits.{bitXor};
+ghost use lib.Dec.{eqb};
+ghost use lib.ListN.{length};
+ghost use Rattle.bch.specs.Words.{Bits};
+ghost use Rattle.bch.specs.Remainders.{step, remainder};
+ghost use Rattle.bch.specs.Registers.{number, whole, packed, tops};
+
+pub struct Register {
+    pub high: u64,
+    pub mid: u64,
+    pub low: u64,
+}
+
+// The highest digit.
+pub(crate) fn top(r: Register) -> u64
+    ensures { λ t. ⌜ (t ≡ number r / 2 ^ 191) × (t < 2) ⌝ }
+{
+    r.high / 0x8000_0000_0000_0000
+}
+
+// One place up; the highest digit falls out.
+pub(crate) fn up(r: Register) -> Register
+    ensures { λ q. ⌜ number q ≡ number r * 2 % 2 ^ 192 ⌝ }
+{
+    Register {
+        high: r.high % 0x8000_0000_0000_0000 * 2 + r.mid / 0x8000_0000_0000_0000,
+        mid: r.mid % 0x8000_0000_0000_0000 * 2 + r.low / 0x8000_0000_0000_0000,
+        low: r.low % 0x8000_0000_0000_0000 * 2,
+    }
+}
+
+// One place down, with b as the highest digit; the lowest falls out.
+pub(crate) fn down(r: Register, b: u64) -> Register
+    requires { ⌜ b < 2 ⌝ }
+    ensures { λ q. ⌜ number q ≡ b * 2 ^ 191 + number r / 2 ⌝ }
+{
+    Register {
+        high: b * 0x8000_0000_0000_0000 + r.high / 2,
+        mid: r.high % 2 * 0x8000_0000_0000_0000 + r.mid / 2,
+        low: r.mid % 2 * 0x8000_0000_0000_0000 + r.low / 2,
+    }
+}
+
+// The sum without carries.
+pub(crate) fn xor(r: Register, s: Register) -> Register
+    ensures { λ q. ⌜ number q ≡ bitXor (number r) (number s) ⌝ }
+{
+    Register {
+        high: r.high ^ s.high,
+        mid: r.mid ^ s.mid,
+        low: r.low ^ s.low,
+    }
+}
+
+pub(crate) fn is_zero(r: Register) -> bool
+    ensures { λ z. ⌜ z ≡ eqb (number r) 0 ⌝ }
+{
+    if r.high == 0 {
+        if r.mid == 0 {
+            return r.low == 0;
+        }
+    }
+    false
+}
+
+// The register takes in one bit; the generator g stands without its highest digit.
+pub(crate) fn step(r: Register, g: Register, b: u8) -> Register
+    requires { ⌜ b < 2 ⌝ }
+    ensures { λ q. ⌜ number q ≡ step 192 (whole g) (number r) b ⌝ }
+{
+    let moved = up(r);
+    if top(r) == b as u64 {
+        moved
+    } else {
+        xor(moved, g)
+    }
+}
+
+// The remainder of word by the generator g.
+pub(crate) fn remainder(g: Register, word: &[u8]) -> Register
+    requires { ⌜ Bits (now word) ⌝ }
+    ensures { λ q. ⌜ number q ≡ remainder 192 (whole g) (now (word .entry)) ⌝ }
+{
+    let mut r = Register {
+        high: 0,
+        mid: 0,
+        low: 0,
+    };
+    let mut i: usize = 0;
+    while i < word.len() {
+        r = step(r, g, word[i]);
+        i += 1;
+    }
+    r
+}
+
+// The bits of word at the top of a register.
+pub(crate) fn packed(word: &[u8]) -> Register
+    requires { ⌜ Bits (now word) ⌝ }
+    ensures { λ q. ⌜ number q ≡ packed (now (word .entry)) ⌝ }
+{
+    let mut r = Register {
+        high: 0,
+        mid: 0,
+        low: 0,
+    };
+    let mut i: usize = word.len();
+    while 0 < i {
+        i -= 1;
+        r = down(r, word[i] as u64);
+    }
+    r
+}
+
+// The highest digits, as many as out has places.
+pub(crate) fn put(r: Register, out: &mut [u8])
+    ensures { λ _. ⌜ now (out .exit) ≡ tops (length (now (out .entry))) (number r) ⌝ }
+{
+    let mut rest = r;
+    let mut i: usize = 0;
+    while i < out.len() {
+        out[i] = (top(rest) % 2) as u8;
+        rest = up(rest);
+        i += 1;
+    }
+}

@@ -1,0 +1,54 @@
+// The trial program: how anybody else's program can drive ours. It reads requests from standard input, makes the calls and writes the
+// responses to standard output, and has no rule of its own.
+//
+// Integers are little-endian. A list is a count of 4 bytes and its elements. A request is a job byte and the job's fields, with the lent
+// lists as they stand before the call. A response is the answer's number (1 byte), its place (8 bytes), the counts that the job has
+// (8 bytes each), and each lent list, whole, as it stands after the call.
+//
+//   job         fields                       counts     lent lists
+//   1 encode    code (1 byte), word, out                out
+//   2 decode    code (1 byte), word, out     mended     out
+//
+// Another job byte, a list too long for its room and a request that is cut end the program after the responses so far.
+ghost use mathlib.Core.Path.{_≡_};
+ghost use lib.ListN.{length};
+use input::Byte;
+
+mod input;
+mod output;
+mod word;
+
+// The most elements of a list of bytes.
+const MOST_BYTES: usize = 67300;
+
+// Room for a list of bytes.
+fn room() -> [u8; MOST_BYTES]
+    ensures { λ r. ⌜ 67300 ≡ length r ⌝ }
+{
+    [0; MOST_BYTES]
+}
+
+// Reads a request and writes its response. False ends the program.
+fn serve(first: &mut [u8], second: &mut [u8]) -> bool {
+    let Byte::Of(job) = input::read_byte() else {
+        return false;
+    };
+    match job {
+        1 | 2 => word::serve(job, first, second),
+        _ => false,
+    }
+}
+
+// A proved loop has to end, and nothing says that the input does: the turns count down from a number that no run uses up.
+fn serve_all(first: &mut [u8], second: &mut [u8]) {
+    let mut turns = u64::MAX;
+    while turns > 0 && serve(first, second) {
+        turns -= 1;
+    }
+}
+
+fn main() {
+    let mut first = room();
+    let mut second = room();
+    serve_all(&mut first, &mut second);
+}
