@@ -1,0 +1,9 @@
+-- The laws of the crate, in the order in which they rest on each other.
+mod Computed
+mod Signed
+pub mod Places
+pub mod Lending
+pub mod Rules
+pub mod Turns
+pub mod Placement
+pub mod Numbers

@@ -1,0 +1,37 @@
+-- `points::dqpsk::phase` meets its contract: the guess tells the four points apart.
+-- Assumes nothing.
+use mathlib.Core.Path.{_∙_}
+use mir.Syntax.{w16}
+use mir.ValLaws.{toZ-ofZ}
+use borrow.Author.Needs.{needs}
+use Rattle.points.proofs.Turns.{phase-again}
+use Rattle.points.proofs.dqpsk.phase.Statement.{statement}
+use Rattle.points.proofs.dqpsk.phase.Tie as tie
+
+apart-requires : tie.Need-apart-requires
+apart-requires c κs = search needs
+
+apart-requires-2 : tie.Need-apart-requires-2
+apart-requires-2 c κs = search needs
+
+guess-requires : tie.Need-guess-requires
+guess-requires c κs = search needs
+
+point-requires : tie.Need-point-requires
+point-requires c κs = search needs
+
+confirmed-requires : tie.Need-confirmed-requires
+confirmed-requires c κs = search needs
+
+returns : tie.Need-returns
+returns c =
+    let g = c .before .before in
+    let s = g .before .before .before in
+    let i = toZ-ofZ w16 (s .args .i) (s .fits .i) in
+    let q = toZ-ofZ w16 (s .args .q) (s .fits .q) in
+    let guessed = rw (g .before .before .apart .ensures, g .before .apart2 .ensures, i, q) at (g .guess .ensures) in
+    rw (c .before .point .ensures, guessed, i, q) at (c .confirmed .ensures) ∙ phase-again (s .args .i) (s .args .q)
+
+pub phase-spec : {M : Type 1} → statement M
+phase-spec =
+    tie.close (tie.spec apart-requires apart-requires-2 guess-requires point-requires confirmed-requires returns)
