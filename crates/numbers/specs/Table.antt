@@ -2,10 +2,14 @@
 -- Assumes nothing.
 use mathlib.Core.Path.{_≡_}
 use mathlib.Core.List.{List, [], _∷_, _++_}
-use Prim.Native.Nat.{ℕ, _+_, _-_}
+use Prim.Native.Nat.{ℕ, _-_}
 use lib.ListN.{replicate}
 use Rattle.bch.specs.Words.{digits}
-use Rattle.bch.specs.Codes.{Code, code1, code2, code3, encoded}
+use Rattle.bch.specs.Codes.{code1, code2, code3, encoded}
+use Rattle.points.specs.Levels.{+0, +1, +2, -2, -5}
+use Rattle.points.specs.Grid.{placeOf}
+use Rattle.points.specs.Constellations.{pointOf}
+use Rattle.points.specs.declared.Point.the-variants.{At}
 
 pub record Row : Type 1 where
   pub Value : Type 0
@@ -15,19 +19,22 @@ pub record Row : Type 1 where
 abbrev pub row : {A : Type 0} → A → A → Row
 row {A} ours document = record { Value = A; ours = ours; document = document }
 
--- only the last of k information bits set
-abbrev pub lastSet : Code → List ℕ
-lastSet c = replicate (c .k - 1) 0 ++ (1 ∷ [])
-
--- zeros, and then the generator's n-k+1 bits
-abbrev pub generatorLast : Code → List ℕ
-generatorLast c = replicate (c .k - 1) 0 ++ digits (c .n - c .k + 1) (c .generator)
+-- k bits, of which only the last is set
+abbrev pub lastOf : ℕ → List ℕ
+lastOf k = replicate (k - 1) 0 ++ (1 ∷ [])
 
 unfoldable pub table : List Row
 table =
-    row (encoded code1 (lastSet code1)) (generatorLast code1) ∷
-    row (encoded code2 (lastSet code2)) (generatorLast code2) ∷
-    row (encoded code3 (lastSet code3)) (generatorLast code3) ∷
+    row (encoded code1 (lastOf 472)) (replicate 471 0 ++ digits 37 0o1630256304641) ∷
+    row (encoded code2 (lastOf 432)) (replicate 431 0 ++ digits 73 0o1561350064670543777423345) ∷
+    row (encoded code3 (lastOf 248)) (replicate 247 0 ++ digits 145 0o1126657202505666323017001652245562614435511600655) ∷
+    row (placeOf 1) 151 ∷
+    row (placeOf 105) 255 ∷
+    row (placeOf 106) 1 ∷
+    row (placeOf 210) 105 ∷
+    row (pointOf 3 0b100) (At +0 +2) ∷
+    row (pointOf 3 0b010) (At +0 -2) ∷
+    row (pointOf 9 0b101100101) (At -5 +1) ∷
     []
 
 -- the claim: in each row the two are the same
