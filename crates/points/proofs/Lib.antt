@@ -1,6 +1,6 @@
 -- The laws of the crate, in the order in which they rest on each other.
 mod Computed
-mod Signed
+pub mod Signed
 pub mod Places
 pub mod Lending
 pub mod Rules
