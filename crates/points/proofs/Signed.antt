@@ -8,7 +8,8 @@ use lib.Dec.{eqb, leb·suc-zero}
 use lib.IntN.{ℤ, pos, negsuc, _-ℤ_}
 use lib.Signed.{mag, ltZ}
 use mir.Syntax.{w16}
-use mir.Val.{ofZ, SFits}
+use mir.Val.{toZ, ofZ, SFits}
+use mir.ValLaws.{toZ-ofZ}
 use borrow.Author.Tests.{eq-eqb, ne-eqb, eqb-true, eqb-false, le-ltb}
 use Rattle.points.specs.Constellations.{same}
 
@@ -28,6 +29,17 @@ from-pos (suc n) = ap (λ (m : ℕ). negsuc (suc m)) (zero-add n)
 
 pub from-neg : (n : ℕ) → negsuc 0 -ℤ negsuc n ≡ pos n
 from-neg n = rw (le-ltb (suc n) 1 (omega arith)) (ap pos (omega arith))
+
+-- the size of a number that fits, fits
+pub size-fits : (x : ℤ) → SFits w16 x → SFits w16 (pos (mag x))
+size-fits x f = record { sfits = f .sfits }
+
+-- as the machine holds them: -1 - x for a negative x, and x for one that is not, are the size
+pub size-of-neg : (x : ℤ) → SFits w16 x → ltZ (toZ w16 (ofZ w16 x)) (pos 0) ≡ true → negsuc 0 -ℤ toZ w16 (ofZ w16 x) ≡ pos (mag x)
+size-of-neg x f e = ap (λ (z : ℤ). negsuc 0 -ℤ z) (toZ-ofZ w16 x f ∙ when-neg x (rw (toZ-ofZ w16 x f) at e)) ∙ from-neg (mag x)
+
+pub size-of-pos : (x : ℤ) → SFits w16 x → ltZ (toZ w16 (ofZ w16 x)) (pos 0) ≡ false → toZ w16 (ofZ w16 x) ≡ pos (mag x)
+size-of-pos x f e = toZ-ofZ w16 x f ∙ when-pos x (rw (toZ-ofZ w16 x f) at e)
 
 -- the machine tests two numbers by their bits
 same-test : (a b c d : ℕ) → (a ≡ b → c ≡ d) → (c ≡ d → a ≡ b) → eqb a b ≡ eqb c d

@@ -21,7 +21,7 @@ const POINTS: [Point; 8] = [
 const SIDES: [[u16; 3]; 3] = [[0, 4, 2], [1, 0, 3], [7, 5, 6]];
 
 // The point of a label.
-pub fn point(label: u16) -> Point
+pub(crate) fn point(label: u16) -> Point
     ensures { λ r. ⌜ r ≡ pointOf 3 label ⌝ }
 {
     if 8 <= label {
@@ -31,7 +31,7 @@ pub fn point(label: u16) -> Point
 }
 
 // The one label that (i, q) can have.
-pub fn guess(i: Parts, q: Parts) -> u16
+pub(crate) fn guess(i: Parts, q: Parts) -> u16
     ensures { λ r. ⌜ r ≡ eightGuess i q ⌝ }
 {
     SIDES[side(i)][side(q)]

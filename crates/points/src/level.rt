@@ -11,7 +11,7 @@ pub struct Parts {
 }
 
 // A level, taken apart.
-pub fn apart(x: i16) -> Parts
+pub(crate) fn apart(x: i16) -> Parts
     ensures { λ r. ⌜ r ≡ partsOf x ⌝ }
 {
     if x < 0 {
@@ -27,7 +27,7 @@ pub fn apart(x: i16) -> Parts
 }
 
 // The odd level 2h + 1, negated unless the sign is 0.
-pub fn level(sign: u16, h: u8) -> i16
+pub(crate) fn level(sign: u16, h: u8) -> i16
     ensures { λ r. ⌜ r ≡ levelOf sign h ⌝ }
 {
     let twice = 2 * (h as u16);
@@ -38,14 +38,14 @@ pub fn level(sign: u16, h: u8) -> i16
 }
 
 // Whether two levels are the same.
-pub fn same(x: i16, y: i16) -> bool
+pub(crate) fn same(x: i16, y: i16) -> bool
     ensures { λ r. ⌜ r ≡ same x y ⌝ }
 {
     x == y
 }
 
 // A table's byte, as a label or a phase is counted.
-pub fn wide(x: u8) -> u16
+pub(crate) fn wide(x: u8) -> u16
     ensures { λ r. ⌜ (r ≡ x) × (r < 256) ⌝ }
 {
     x as u16

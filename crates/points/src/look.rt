@@ -22,7 +22,7 @@ fn is_at(there: Point, i: i16, q: i16) -> bool
 }
 
 // The label guessed for (i, q), whose point is there: or stray, where that is another point.
-pub fn confirmed(there: Point, guess: u16, i: i16, q: i16) -> Label
+pub(crate) fn confirmed(there: Point, guess: u16, i: i16, q: i16) -> Label
     ensures { λ r. ⌜ r ≡ confirmed there guess i q ⌝ }
 {
     if is_at(there, i, q) {

@@ -15,7 +15,7 @@ fn size(bits: u8) -> u16
 }
 
 // The point of a label of so many bits.
-pub fn point_in(cells: &[u64; 64], bits: u8, label: u16) -> Point
+pub(crate) fn point_in(cells: &[u64; 64], bits: u8, label: u16) -> Point
     requires { ⌜ (2 ≤ bits) × (bits ≤ 10) ⌝ }
     ensures { λ r. ⌜ r ≡ quarterPoint (now (cells .entry)) (quarterOf bits) label ⌝ }
 {
@@ -37,7 +37,7 @@ fn signed(signs: u16, cell: u8) -> Point
 }
 
 // The one label of so many bits that (i, q) can have.
-pub fn guess_in(quadrants: &[u64; 106], bits: u8, i: Parts, q: Parts) -> u16
+pub(crate) fn guess_in(quadrants: &[u64; 106], bits: u8, i: Parts, q: Parts) -> u16
     requires { ⌜ (2 ≤ bits) × (bits ≤ 10) ⌝ }
     ensures { λ r. ⌜ r ≡ quarterGuess (now (quadrants .entry)) bits i q ⌝ }
 {

@@ -5,30 +5,15 @@ use native.Mathlib.Omega.{arith}
 use lib.IntN.{ℤ, pos, negsuc, _-ℤ_}
 use lib.Signed.{mag}
 use mir.Syntax.{w16}
-use mir.Val.{toZ, ofZ, SFits}
+use mir.Val.{toZ, ofZ}
 use mir.ValLaws.{toZ-ofZ}
 use borrow.Author.Needs.{needs}
-use Rattle.points.proofs.Signed.{when-pos, when-neg, from-neg}
+use Rattle.points.proofs.Signed.{size-fits, size-of-neg, size-of-pos}
 use Rattle.points_table.proofs.complement.Statement.{statement}
 use Rattle.points_table.proofs.complement.Tie as tie
 
-size-fits : (x : ℤ) → SFits w16 x → SFits w16 (pos (mag x))
-size-fits x f = record { sfits = f .sfits }
-
-is-neg : (c : tie.Then1) → c .before .args .v ≡ negsuc (mag (c .before .args .v))
-is-neg c =
-    let x = c .before .args .v in
-    when-neg x (rw (toZ-ofZ w16 x (c .before .fits .v)) at (c .if1 .taken))
-
-is-pos : (c : tie.Else1) → c .before .args .v ≡ pos (mag (c .before .args .v))
-is-pos c =
-    let x = c .before .args .v in
-    when-pos x (rw (toZ-ofZ w16 x (c .before .fits .v)) at (c .if1 .left))
-
 turned : (c : tie.Then1) → negsuc 0 -ℤ toZ w16 (ofZ w16 (c .before .args .v)) ≡ pos (mag (c .before .args .v))
-turned c =
-    let x = c .before .args .v in
-    ap (λ (z : ℤ). negsuc 0 -ℤ z) (toZ-ofZ w16 x (c .before .fits .v) ∙ is-neg c) ∙ from-neg (mag x)
+turned c = size-of-neg (c .before .args .v) (c .before .fits .v) (c .if1 .taken)
 
 -- what the cast gives
 size : (c : tie.Then1) → toZ w16 (ofZ w16 (negsuc 0 -ℤ toZ w16 (ofZ w16 (c .before .args .v)))) ≡ pos (mag (c .before .args .v))
@@ -37,7 +22,7 @@ size c =
     ap (λ (z : ℤ). toZ w16 (ofZ w16 z)) (turned c) ∙ toZ-ofZ w16 (pos (mag x)) (size-fits x (c .before .fits .v))
 
 kept : (c : tie.Else1) → toZ w16 (ofZ w16 (c .before .args .v)) ≡ pos (mag (c .before .args .v))
-kept c = toZ-ofZ w16 (c .before .args .v) (c .before .fits .v) ∙ is-pos c
+kept c = size-of-pos (c .before .args .v) (c .before .fits .v) (c .if1 .left)
 
 sub-result : tie.Need-sub-result
 sub-result c = rw (turned c) (size-fits (c .before .args .v) (c .before .fits .v))

@@ -1,20 +1,16 @@
 -- `points::level::apart` meets its contract: -1 - x is the size of a negative x.
 -- Assumes nothing.
-use mathlib.Core.Path.{_≡_, ap, sym, _∙_}
+use mathlib.Core.Path.{_≡_, ap, sym}
 use native.Mathlib.Omega.{arith}
 use lib.IntN.{ℤ, pos, negsuc, _-ℤ_}
 use lib.Signed.{mag}
 use mir.Syntax.{w16}
-use mir.Val.{toZ, ofZ, SFits}
+use mir.Val.{toZ, ofZ}
 use mir.ValLaws.{toZ-ofZ}
 use Rattle.points.specs.Lent.{partsOf}
-use Rattle.points.proofs.Signed.{when-pos, when-neg, from-neg}
+use Rattle.points.proofs.Signed.{when-pos, when-neg, size-fits, size-of-neg, size-of-pos}
 use Rattle.points.proofs.level.apart.Statement.{statement}
 use Rattle.points.proofs.level.apart.Tie as tie
-
--- the size of a number that fits, fits
-size-fits : (x : ℤ) → SFits w16 x → SFits w16 (pos (mag x))
-size-fits x f = record { sfits = f .sfits }
 
 is-neg : (c : tie.Then1) → c .before .args .x ≡ negsuc (mag (c .before .args .x))
 is-neg c =
@@ -27,12 +23,10 @@ is-pos c =
     when-pos x (rw (toZ-ofZ w16 x (c .before .fits .x)) at (c .if1 .left))
 
 turned : (c : tie.Then1) → negsuc 0 -ℤ toZ w16 (ofZ w16 (c .before .args .x)) ≡ pos (mag (c .before .args .x))
-turned c =
-    let x = c .before .args .x in
-    ap (λ (z : ℤ). negsuc 0 -ℤ z) (toZ-ofZ w16 x (c .before .fits .x) ∙ is-neg c) ∙ from-neg (mag x)
+turned c = size-of-neg (c .before .args .x) (c .before .fits .x) (c .if1 .taken)
 
 kept : (c : tie.Else1) → toZ w16 (ofZ w16 (c .before .args .x)) ≡ pos (mag (c .before .args .x))
-kept c = toZ-ofZ w16 (c .before .args .x) (c .before .fits .x) ∙ is-pos c
+kept c = size-of-pos (c .before .args .x) (c .before .fits .x) (c .if1 .left)
 
 sub-t3 : tie.Need-sub-t3
 sub-t3 c = rw (turned c) (size-fits (c .before .args .x) (c .before .fits .x))
