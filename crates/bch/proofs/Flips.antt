@@ -2,24 +2,21 @@
 -- Assumes nothing.
 use mathlib.Core.Path.{_≡_, refl, sym, ap, ap₂, _∙_}
 use mathlib.Core.Logic.{_≢_}
-use mathlib.Core.List.{List, [], _∷_}
+use mathlib.Core.List.{List, [], _∷_, _++_}
 use Prim.Native.Nat.{ℕ, zero, suc, _+_, _-_, _≤_, _<_}
 use native.Mathlib.Numerals.{add-one}
 use native.Mathlib.Decide.{decLt, ℕ-discrete}
 use native.Mathlib.Omega.{arith}
 use borrow.Author.Tests.{eq-eqb, ne-eqb}
 use lib.Dec.{eqb}
-use lib.ListN.{length, take, getD, set, length-set}
+use lib.ListN.{length, take, getD, set, replicate, length-set, length-replicate, length-append, List·getD-append}
 use lib.Seq.{take-suc, take-suc-set, take-length, length-take-le, getD-set-same, getD-set-other}
 use Rattle.field.proofs.Elements.{GF512, element-of, of-0, of-zero}
-use Rattle.algebra.proofs.Fields.{mul-comm}
-use Rattle.algebra.proofs.Powers.{pow, pow-suc}
-use Rattle.field.specs.Tables.{productFrom}
-use Rattle.field.proofs.Values.{a, a-is}
+use Rattle.algebra.proofs.Fields.{zero-add}
+use Rattle.field.proofs.Values.{series}
 use mathlib.Core.Bool.{cond}
 use Rattle.bch.specs.Words.{Bits, differ}
-use Rattle.bch.specs.Locators.{Lent, atPlace, Turned}
-use Rattle.bch.proofs.Lents.{lent-product}
+use Rattle.bch.specs.Locators.{Plus, valueAt, atPlace, Turned}
 use Rattle.bch.proofs.Digits.{bits-at}
 use Rattle.bch.proofs.Distances.{apart, apart-same, apart-other, differ-one, differ-append}
 
@@ -33,12 +30,53 @@ turn-apart v b h = go (ℕ-discrete v 0)
     go (yes e) = rw (eq-eqb v 0 e) (apart-other (1 - b) b (λ z. omega arith))
     go (no e) = rw (ne-eqb v 0 e) (apart-same b b refl)
 
-pub hit-le : (v : ℕ) → cond {A = ℕ} (eqb v 0) 1 0 ≤ 1
+hit-le : (v : ℕ) → cond {A = ℕ} (eqb v 0) 1 0 ≤ 1
 hit-le v = go (ℕ-discrete v 0)
   where
     go : Dec (v ≡ 0) → cond {A = ℕ} (eqb v 0) 1 0 ≤ 1
     go (yes e) = rw (eq-eqb v 0 e) (omega arith)
     go (no e) = rw (ne-eqb v 0 e) (omega arith)
+
+-- ---- the values at the places
+
+-- the first n entries are the values of the locator at the n places
+pub record Valued (locator : List ℕ) (len n : ℕ) (sums : List ℕ) : Type 0 where
+  pub room : n ≤ length sums
+  pub each : (i : ℕ) → i < n → element-of (getD sums i 0) ≡ atPlace locator len n i
+  pub small : (i : ℕ) → i < n → getD sums i 0 < 512
+
+-- a place adds at most one to the count
+pub hit-one : {locator sums : List ℕ} {len n r : ℕ} → Valued locator len n sums → (i : ℕ) → r ≡ cond (eqb (getD sums i 0) 0) 1 0 → r ≤ 1
+hit-one {sums = sums} v i e = rw e (hit-le (getD sums i 0))
+
+zeros-at : (n m i : ℕ) → _≡_ {A = ℕ} (getD (take n (replicate m 0)) i 0) 0
+zeros-at zero m i = refl
+zeros-at (suc n) zero i = refl
+zeros-at (suc n) (suc m) zero = refl
+zeros-at (suc n) (suc m) (suc i) = zeros-at n m i
+
+-- the values added to the first n of m sums of nothing
+module _ (locator : List ℕ) (len n m : ℕ) {zs ys : List ℕ} (z : zs ≡ replicate m 0) (fit : n ≤ m)
+    (u : Plus (valueAt locator (suc len) (512 - n)) (take n zs) ys) where
+  long : length (take n zs) ≡ n
+  long = rw z (length-take-le n (replicate m 0) (rw length-replicate fit))
+
+  nothing : (i : ℕ) → getD (take n zs) i 0 ≡ 0
+  nothing i = rw z (zeros-at n m i)
+
+  value-at : (i : ℕ) → i < n → element-of (getD ys i 0) ≡ atPlace locator len n i
+  unfolding series
+  value-at i h = u .each i (omega (arith, long)) ∙ rw (nothing i, of-0) (zero-add GF512 _)
+
+  pub valued : (rest : List ℕ) → Valued locator len n (ys ++ rest)
+  valued rest = record {
+    room = rw length-append (omega (arith, long, u .long));
+    each = λ i h. ap element-of (at i h) ∙ value-at i h;
+    small = λ i h. rw (at i h) (u .small (λ k. rw (nothing k) (omega arith)) i);
+  }
+    where
+      at : (i : ℕ) → i < n → getD (ys ++ rest) i 0 ≡ getD ys i 0
+      at i h = List·getD-append ys rest 0 i (omega (arith, long, u .long))
 
 -- ---- after i places
 
@@ -111,10 +149,3 @@ module _ (locator : List ℕ) (len : ℕ) (word : List ℕ) where
             rw (add-one i, take-suc-set copy i turned (omega (arith, u .long)), take-suc word i 0 room)
             (ap₂ (λ (x y : ℕ). x + y) (u .count) (sym (differ-one turned b ∙ turn-apart v b (bits-at word bits i)))
             ∙ sym (differ-append (take i copy) (take i word) (turned ∷ []) (b ∷ []) (e ∙ sym e')))
-
--- from a place to the next
-pub next-place : {logs powers : List ℕ} → Lent logs powers → (x k i : ℕ) → element-of x ≡ pow GF512 a (k + i)
-    → element-of (productFrom logs powers x 2) ≡ pow GF512 a (k + (i + 1))
-next-place lent x k i e =
-    let n : k + (i + 1) ≡ suc (k + i) = omega arith in
-    rw (n, pow-suc GF512 a (k + i)) (lent-product lent x 2 ∙ mul-comm GF512 _ _ ∙ ap₂ (GF512 .mul) (sym a-is) e)

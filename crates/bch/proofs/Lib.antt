@@ -1,4 +1,5 @@
 pub mod Lents
+pub mod Summands
 pub mod Digits
 pub mod Distances
 pub mod Errors
@@ -7,9 +8,10 @@ pub mod Roots
 pub mod Triples
 pub mod Remainders
 pub mod Tops
+pub mod Nibbles
+pub mod Syndromic
 pub mod Leftovers
 pub mod Uniqueness
-pub mod Evaluations
 pub mod Flips
 pub mod Completeness
 pub mod Shifts

@@ -43,7 +43,7 @@ encoded-codeword {c} rooted m bits long =
 
 -- ---- the three codes by their numbers
 
-none-bad : (w : List ℕ) → Bits w → length w ≤ firstBad w
+pub none-bad : (w : List ℕ) → Bits w → length w ≤ firstBad w
 unfolding firstBad
 none-bad [] h = omega arith
 none-bad (b ∷ w) h = let l = none-bad w (h .1) in rw (lt-ltb b 2 (h .0)) (omega arith)

@@ -1,7 +1,7 @@
--- Remainders: one step of the register, what it stays below, and a generator and a remainder that stand higher by k places.
+-- Remainders: one step of the register, word after word, what it stays below, and a generator and a remainder that stand higher by k places.
 -- Assumes nothing.
 use mathlib.Core.Path.{_≡_, refl, sym, ap, ap₂, _∙_}
-use mathlib.Core.List.{List, [], _∷_}
+use mathlib.Core.List.{List, [], _∷_, _++_}
 use mathlib.Core.Logic.{_≢_}
 use Prim.Native.Nat.{ℕ, zero, suc, _+_, _-_, _*_, _/_, _%_, _^_, _≤_, _<_}
 use native.Mathlib.Omega.{arith}
@@ -66,6 +66,11 @@ step-lt r g x b degree hx hb = by (ℕ-discrete (x * 2 / 2 ^ r) b)
 
 -- ---- remainders
 
+pub from-append : (r g x : ℕ) (v w : List ℕ) → remainderFrom r g x (v ++ w) ≡ remainderFrom r g (remainderFrom r g x v) w
+unfolding remainderFrom
+from-append r g x [] w = refl
+from-append r g x (b ∷ v) w = from-append r g (step r g x b) v w
+
 pub remainder-lt : (r g : ℕ) → g / 2 ^ r ≡ 1 → (m : List ℕ) → Bits m → remainder r g m < 2 ^ r
 unfolding remainder remainderFrom
 remainder-lt r g degree m bits = from 0 (pow-pos r) m bits
@@ -74,7 +79,7 @@ remainder-lt r g degree m bits = from 0 (pow-pos r) m bits
     from x hx [] bits = hx
     from x hx (b ∷ m) bits = from (step r g x b) (step-lt r g x b degree hx (bits .0)) m (bits .1)
 
-xor-scaled : (k a b : ℕ) → bitXor (a * 2 ^ k) (b * 2 ^ k) ≡ bitXor a b * 2 ^ k
+pub xor-scaled : (k a b : ℕ) → bitXor (a * 2 ^ k) (b * 2 ^ k) ≡ bitXor a b * 2 ^ k
 xor-scaled k a b =
     sym (ap₂ bitXor (add-zero (a * 2 ^ k)) (add-zero (b * 2 ^ k))) ∙ xor-block k a b 0 0 (pow-pos k) (pow-pos k) ∙ add-zero (bitXor a b * 2 ^ k)
 

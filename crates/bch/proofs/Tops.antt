@@ -1,13 +1,13 @@
 -- Bits at the top of 192 digits: read off, put there, and as the digits of a number.
 -- Assumes nothing.
 use mathlib.Core.Path.{_≡_, refl, sym, ap, ap₂, _∙_}
-use mathlib.Core.List.{List, [], _∷_}
+use mathlib.Core.List.{List, [], _∷_, _++_, append-nil}
 use Prim.Native.Nat.{ℕ, zero, suc, _+_, _-_, _*_, _/_, _%_, _^_, _≤_, _<_}
 use native.Mathlib.Omega.{arith}
-use native.Mathlib.Nat.{le-refl, mod-eq-of-lt, mul-assoc, zero-mul, zero-mod, mod-one, mul-add-mod-self-right}
-use native.Mathlib.Numerals.{one-add}
+use native.Mathlib.Nat.{le-refl, mod-eq-of-lt, mul-assoc, add-zero, zero-mul, zero-mod, zero-div, mod-one, mul-add-mod-self-right}
+use native.Mathlib.Numerals.{add-one, one-add}
 use lib.Arith.{digits-lt, digits-mod}
-use lib.Bits.{bitXor, shifted-half, xor-shr, xor-mod}
+use lib.Bits.{bitXor, block-half, xor-shr, xor-mod}
 use lib.ListN.{length}
 use lib.Pow.{pow-pos, pow-add, shl-shr, shr-shr, shr-lt, high, field, mod-pow-add, mod-mod-pow}
 use Rattle.ground.proofs.Xors.{xor-double}
@@ -33,7 +33,7 @@ unfolding tops
 tops-length zero x = refl
 tops-length (suc m) x = ap suc (tops-length m (x * 2 % 2 ^ 192))
 
-tops-shifted : (m k x : ℕ) → m + k ≡ 192 → tops m x ≡ digits m (x / 2 ^ k)
+pub tops-shifted : (m k x : ℕ) → m + k ≡ 192 → tops m x ≡ digits m (x / 2 ^ k)
 unfolding tops digits
 tops-shifted zero k x h = refl
 tops-shifted (suc m) k x h =
@@ -68,18 +68,24 @@ unfolding packed
 packed-lt [] bits = pow-pos 192
 packed-lt (b ∷ bs) bits = digits-lt (bits .0) (shr-lt 191 1 (packed-lt bs (bits .1)))
 
-shifted-digits : (r k x : ℕ) → r + k ≡ 192 → packed (digits r x) ≡ x % 2 ^ r * 2 ^ k
+shifted-digits : (r k x : ℕ) (bs : List ℕ) → r + k ≡ 192 → packed (digits r x ++ bs) ≡ x % 2 ^ r * 2 ^ k + packed bs / 2 ^ r
 unfolding packed digits
-shifted-digits zero k x h = rw (mod-one x) (sym (zero-mul (2 ^ k)))
-shifted-digits (suc r) k x h =
+shifted-digits zero k x bs h = rw (mod-one x, zero-mul (2 ^ k)) (omega arith)
+shifted-digits (suc r) k x bs h =
     let d = x / 2 ^ r % 2 in
     let s : 191 ≡ r + k = omega arith in
     let p : d * 2 ^ 191 ≡ d * (2 ^ r * 2 ^ k) = ap (λ (n : ℕ). d * 2 ^ n) s ∙ ap (λ (n : ℕ). d * n) (pow-add 2 r k) in
-    ap₂ _+_ p (ap (λ (n : ℕ). n / 2) (shifted-digits r (suc k) x (omega arith)) ∙ shifted-half (x % 2 ^ r) k)
-    ∙ omega (arith, ap (λ (n : ℕ). n * 2 ^ k) (rw one-add at (mod-pow-add x 1 r)))
+    ap₂ _+_ p (ap (λ (n : ℕ). n / 2) (shifted-digits r (suc k) x bs (omega arith)) ∙ block-half (x % 2 ^ r) k (packed bs / 2 ^ r))
+    ∙ omega (arith, ap (λ (n : ℕ). n * 2 ^ k) (rw one-add at (mod-pow-add x 1 r)), rw add-one at (shr-shr (packed bs) r 1))
+
+-- digits before bits
+pub packed-before : (r x : ℕ) (bs : List ℕ) → r ≤ 192 → x < 2 ^ r → packed (digits r x ++ bs) ≡ x * 2 ^ (192 - r) + packed bs / 2 ^ r
+packed-before r x bs h l = shifted-digits r (192 - r) x bs (omega arith) ∙ ap (λ (n : ℕ). n * 2 ^ (192 - r) + packed bs / 2 ^ r) (mod-eq-of-lt l)
 
 pub packed-digits : (r x : ℕ) → r ≤ 192 → x < 2 ^ r → packed (digits r x) ≡ x * 2 ^ (192 - r)
-packed-digits r x h l = shifted-digits r (192 - r) x (omega arith) ∙ ap (λ (n : ℕ). n * 2 ^ (192 - r)) (mod-eq-of-lt l)
+unfolding packed
+packed-digits r x h l =
+    ap packed (sym (append-nil (digits r x))) ∙ packed-before r x [] h l ∙ ap (λ (n : ℕ). x * 2 ^ (192 - r) + n) (zero-div (2 ^ r)) ∙ add-zero _
 
 -- what stands at the top has zeros below
 packed-below : (bs : List ℕ) (k : ℕ) → length bs + k ≤ 192 → packed bs % 2 ^ k ≡ 0

@@ -1,12 +1,11 @@
--- Numbers in three machine words: what moving them by a place, adding them and reading their top does.
+-- Numbers in three machine words: what moving them by places, adding them and reading their top does.
 -- Assumes nothing.
 use mathlib.Core.Path.{_≡_, sym, ap, _∙_}
 use Prim.Native.Nat.{ℕ, _+_, _*_, _/_, _%_, _^_, _<_}
 use native.Mathlib.Omega.{arith}
-use native.Mathlib.Nat.{mod-lt, div-add-mod', div-lt-iff-lt-mul, div-div-eq-div-mul, le-mul-of-pos-right}
+use native.Mathlib.Nat.{mod-lt, div-add-mod', div-lt-iff-lt-mul, div-div-eq-div-mul, mul-add-div-right, mul-comm, le-mul-of-pos-right}
 use lib.Arith.{digits-lt, digits-div, digits-mod}
 use lib.Bits.{bitXor, xor-block}
-use lib.Dec.{lit<}
 
 -- ---- a number in three words of W
 
@@ -25,30 +24,36 @@ joined-top W H h m l km kl =
     sym (ap (λ (n : ℕ). n / H) (div-div-eq-div-mul x W W) ∙ div-div-eq-div-mul x (W * W) H)
     ∙ ap (λ (n : ℕ). n / W / H) (digits-div (h * W + m) kl) ∙ ap (λ (n : ℕ). n / H) (digits-div h km)
 
--- words of twice H: a high digit, and a number below H
-module _ (H : ℕ) where
-  pub raised-lt : 0 < H → (h m : ℕ) → m < H * 2 → h % H * 2 + m / H < H * 2
-  raised-lt pos h m km =
-      let a : h % H < H = mod-lt h pos in
-      let b : m / H < 2 = div-lt-iff-lt-mul pos .1 (omega arith) in
-      omega arith
+-- a multiple, word by word with what each hands to the next
+carried : (W D h m l h' m' l' x y z : ℕ) → h * D ≡ h' * W + x → m * D ≡ m' * W + y → l * D ≡ l' * W + z
+    → joined W h m l * D ≡ h' * (W * W * W) + joined W (x + m') (y + l') z
+carried W D h m l h' m' l' x y z eh em el = omega (arith, ap (λ (n : ℕ). n * W * W) eh, ap (λ (n : ℕ). n * W) em)
 
-  pub joined-up : 0 < H → (h m l : ℕ) → m < H * 2 → l < H * 2
-      → joined (H * 2) (h % H * 2 + m / H) (m % H * 2 + l / H) (l % H * 2) ≡ joined (H * 2) h m l * 2 % (H * 2 * (H * 2) * (H * 2))
-  joined-up pos h m l km kl =
-      let x = joined (H * 2) (h % H * 2 + m / H) (m % H * 2 + l / H) (l % H * 2) in
-      let kz : l % H * 2 < H * 2 = omega (arith, mod-lt l pos) in
-      let e : joined (H * 2) h m l * 2 ≡ h / H * (H * 2 * (H * 2) * (H * 2)) + x
-      = omega (arith, ap (λ (n : ℕ). n * H * H) (div-add-mod' h H), ap (λ (n : ℕ). n * H) (div-add-mod' m H), div-add-mod' l H) in
-      sym (ap (λ (n : ℕ). n % (H * 2 * (H * 2) * (H * 2))) e ∙ digits-mod (h / H) (joined-lt (raised-lt pos h m km) (raised-lt pos m l kl) kz))
+-- words of H * D: a high digit below D, and a number below H
+module _ (H D : ℕ) (some : 0 < H) (one : 0 < D) where
+  pub raised-lt : (h m : ℕ) → m < H * D → h % H * D + m / H < H * D
+  raised-lt h m km = digits-lt (mod-lt h some) (div-lt-iff-lt-mul some .1 (omega arith))
 
-  pub lowered-lt : (h m : ℕ) → m < H * 2 → h % 2 * H + m / 2 < H * 2
-  lowered-lt h m km = let a : h % 2 * H + m / 2 < 2 * H = digits-lt (mod-lt h (lit< tt)) (omega arith) in omega arith
+  pub joined-up : (h m l : ℕ) → m < H * D → l < H * D
+      → joined (H * D) (h % H * D + m / H) (m % H * D + l / H) (l % H * D) ≡ joined (H * D) h m l * D % (H * D * (H * D) * (H * D))
+  joined-up h m l km kl =
+      let W = H * D in
+      let kz : l % H * D + 0 < W = digits-lt (mod-lt l some) one in
+      let times : (n : ℕ) → n * D ≡ n / H * W + n % H * D = λ n. omega (arith, ap (λ (k : ℕ). k * D) (div-add-mod' n H)) in
+      sym (ap (λ (n : ℕ). n % (W * W * W))
+      (carried W D h m l (h / H) (m / H) (l / H) (h % H * D) (m % H * D) (l % H * D) (times h) (times m) (times l))
+      ∙ digits-mod (h / H) (joined-lt (raised-lt h m km) (raised-lt m l kl) (omega arith)))
+
+  pub lowered-lt : (h m : ℕ) → m < H * D → h % D * H + m / D < H * D
+  lowered-lt h m km = rw (mul-comm H D) (digits-lt (mod-lt h one) (div-lt-iff-lt-mul one .1 km))
 
   pub joined-down : (b h m l : ℕ)
-      → joined (H * 2) (b * H + h / 2) (h % 2 * H + m / 2) (m % 2 * H + l / 2) ≡ b * (H * (H * 2) * (H * 2)) + joined (H * 2) h m l / 2
+      → joined (H * D) (b * H + h / D) (h % D * H + m / D) (m % D * H + l / D) ≡ b * (H * (H * D) * (H * D)) + joined (H * D) h m l / D
   joined-down b h m l =
-      omega (arith, ap (λ (n : ℕ). n * H * H) (div-add-mod' h 2), ap (λ (n : ℕ). n * H) (div-add-mod' m 2))
+      let n = h * H * (H * D) + m * H in
+      let s : joined (H * D) h m l ≡ n * D + l = omega arith in
+      let q : joined (H * D) h m l / D ≡ n + l / D = ap (λ (x : ℕ). x / D) s ∙ mul-add-div-right one n l in
+      omega (arith, q, ap (λ (x : ℕ). x * H * H * D) (div-add-mod' h D), ap (λ (x : ℕ). x * H) (div-add-mod' m D))
 
 pub joined-xor : (w h m l i n k : ℕ) → m < 2 ^ w → l < 2 ^ w → n < 2 ^ w → k < 2 ^ w
     → joined (2 ^ w) (bitXor h i) (bitXor m n) (bitXor l k) ≡ bitXor (joined (2 ^ w) h m l) (joined (2 ^ w) i n k)

@@ -4,7 +4,7 @@
 use mathlib.Core.Path.{_≡_}
 use mathlib.Core.Logic.{_≢_}
 use mathlib.Core.List.{List}
-use Prim.Native.Nat.{ℕ, suc, _+_, _-_, _<_}
+use Prim.Native.Nat.{ℕ, suc, _+_, _-_, _*_, _<_}
 use lib.ListN.{length, getD}
 use Rattle.algebra.proofs.Powers.{pow}
 use Rattle.algebra.proofs.Polynomials.{ev}
@@ -23,6 +23,24 @@ pub record Lent (logs powers : List ℕ) : Type 0 where
 -- every entry is an element
 abbrev pub Small : List ℕ → Type 0
 Small l = (i : ℕ) → getD l i 0 < 512
+
+-- f p is added to the entry p, for each p
+pub record Plus (f : ℕ → GF512 .Element) (old new : List ℕ) : Type 0 where
+  pub long : length new ≡ length old
+  pub each : (p : ℕ) → p < length old → series new p ≡ GF512 .add (series old p) (f p)
+  pub small : Small old → Small new
+
+-- a^(e + d i) is added to the entry i, for each i
+abbrev pub Added : ℕ → ℕ → List ℕ → List ℕ → Type 0
+Added e d = Plus (λ i. pow GF512 a (e + d * i))
+
+-- the term c x^i at x = a^(from + p)
+abbrev pub termAt : ℕ → ℕ → ℕ → ℕ → GF512 .Element
+termAt c i from p = GF512 .mul (element-of c) (pow GF512 (pow GF512 a (from + p)) i)
+
+-- the value of the first n terms of the locator at a^(from + p)
+abbrev pub valueAt : List ℕ → ℕ → ℕ → ℕ → GF512 .Element
+valueAt locator n from p = ev GF512 n (series locator) (pow GF512 a (from + p))
 
 -- the first `count` entries are the values at a, a^2, ..
 abbrev pub Syndromes : List ℕ → ℕ → List ℕ → Type 0

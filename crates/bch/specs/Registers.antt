@@ -1,8 +1,12 @@
 -- How the code holds a remainder: at the top of a register of 192 binary digits.
 -- The promise of encode and decode rests on nothing here: it is what the private functions promise one another.
 -- Assumes nothing.
+use mathlib.Core.Path.{_≡_}
 use mathlib.Core.List.{List, [], _∷_}
-use Prim.Native.Nat.{ℕ, zero, suc, _+_, _*_, _/_, _%_, _^_}
+use Prim.Native.Nat.{ℕ, zero, suc, _+_, _*_, _/_, _%_, _^_, _<_}
+use lib.ListN.{getD}
+use Rattle.bch.specs.Words.{digits}
+use Rattle.bch.specs.Remainders.{remainder}
 use Rattle.bch.specs.declared.register.Register.{Register}
 
 -- the number of a register's 192 digits
@@ -22,3 +26,7 @@ packed (b ∷ bs) = b * 2 ^ 191 + packed bs / 2
 -- the generator that a register holds without its highest digit
 abbrev pub whole : Register → ℕ
 whole g = 2 ^ 192 + number g
+
+-- a table that holds at each i below n the remainder of the four digits of i by the generator g
+abbrev pub Fours : ℕ → ℕ → List Register → Type 0
+Fours g n table = (i : ℕ) (d : Register) → i < n → number (getD table i d) ≡ remainder 192 g (digits 4 i)

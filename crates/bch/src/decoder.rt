@@ -107,7 +107,7 @@ fn attempt(c: Held, left: Register, bits: &[u8], copy: &mut [u8]) -> Tried
 {
     let logs = field::log_table();
     let powers = field::power_table();
-    let s = syndrome::syndromes(&logs, &powers, left, c.n - c.k, c.t * 2);
+    let s = syndrome::syndromes(&powers, left, c.n - c.k, c.t * 2);
     let found = locator::shortest(&logs, &powers, &s, c.t * 2);
     let len = found.len;
     if c.t < len {

@@ -4,11 +4,12 @@
 // then the remainder of information times x^(n-k) by the generator. With a a root of x^9 + x^4 + 1, the generator has the roots
 // a, a^2, .., a^2t; so a word that differs from a codeword in at most t places differs so from one codeword alone, and decode finds it:
 //
-//   word       the checks on bits, and copies
+//   word       the check on a word's elements
 //   code       the three codes as the code holds them
 //   register   remainders, in three machine words
 //   encoder    the information, and behind it the remainder
 //   decoder    the remainder of the whole word: zero for a codeword, which is its own answer; else the steps below, and a last look
+//   terms      the terms of a polynomial, added up at many powers of a at once
 //   syndrome   the values of what is left at a, a^2, .., a^2t
 //   locator    the shortest recurrence of the syndromes, by Berlekamp and Massey, without inverses
 //   search     the places of the shortened word at which the locator vanishes, flipped in a copy
@@ -24,6 +25,7 @@ mod locator;
 mod register;
 mod search;
 mod syndrome;
+mod terms;
 mod word;
 
 // Why a word is refused.

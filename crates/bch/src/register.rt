@@ -1,13 +1,14 @@
 // A register of 192 binary digits in three machine words, the highest first. A remainder of r digits stands at its top, with zeros below,
-// so that one step serves all three codes.
+// so that one step serves all three codes. Words are taken in four bits at a time, by a table of sixteen remainders.
 ghost use mathlib.Core.Path.{_≡_};
-ghost use Prim.Native.Nat.{_+_, _*_, _/_, _%_, _^_, _<_};
+ghost use mathlib.Core.List.{_++_};
+ghost use Prim.Native.Nat.{ℕ, _+_, _*_, _/_, _%_, _^_, _<_};
 ghost use lib.Bits.{bitXor};
 ghost use lib.Dec.{eqb};
-ghost use lib.ListN.{length};
-ghost use Rattle.bch.specs.Words.{Bits};
-ghost use Rattle.bch.specs.Remainders.{step, remainder};
-ghost use Rattle.bch.specs.Registers.{number, whole, packed, tops};
+ghost use lib.ListN.{length, drop};
+ghost use Rattle.bch.specs.Words.{Bits, digits};
+ghost use Rattle.bch.specs.Remainders.{step, remainder, remainderFrom};
+ghost use Rattle.bch.specs.Registers.{number, whole, packed, tops, Fours};
 
 pub struct Register {
     pub high: u64,
@@ -80,17 +81,93 @@ pub(crate) fn step(r: Register, g: Register, b: u8) -> Register
     }
 }
 
+// The remainders of the sixteen words of four bits.
+fn fours(g: Register) -> [Register; 16]
+    ensures { λ t. ⌜ Fours (whole g) 16 t ⌝ }
+{
+    let none = Register {
+        high: 0,
+        mid: 0,
+        low: 0,
+    };
+    let mut table = [none; 16];
+    let mut i: usize = 1;
+    while i < 16 {
+        table[i] = step(table[i / 2], g, (i % 2) as u8);
+        i += 1;
+    }
+    table
+}
+
+// Four places up; the highest four digits fall out.
+fn up4(r: Register) -> Register
+    ensures { λ q. ⌜ number q ≡ number r * 16 % 2 ^ 192 ⌝ }
+{
+    Register {
+        high: r.high % 0x1000_0000_0000_0000 * 16 + r.mid / 0x1000_0000_0000_0000,
+        mid: r.mid % 0x1000_0000_0000_0000 * 16 + r.low / 0x1000_0000_0000_0000,
+        low: r.low % 0x1000_0000_0000_0000 * 16,
+    }
+}
+
+// Four places down, with the four digits of b as the highest; the lowest four fall out.
+fn down4(r: Register, b: u64) -> Register
+    requires { ⌜ b < 16 ⌝ }
+    ensures { λ q. ⌜ number q ≡ b * 2 ^ 188 + number r / 16 ⌝ }
+{
+    Register {
+        high: b * 0x1000_0000_0000_0000 + r.high / 16,
+        mid: r.high % 16 * 0x1000_0000_0000_0000 + r.mid / 16,
+        low: r.mid % 16 * 0x1000_0000_0000_0000 + r.low / 16,
+    }
+}
+
+// A bit as a machine word.
+fn wide(b: u8) -> u64
+    ensures { λ w. ⌜ (w ≡ b) × (w < 256) ⌝ }
+{
+    b as u64
+}
+
+// The number of the four bits from i on.
+fn four(word: &[u8], i: usize) -> u64
+    requires { ⌜ Bits (now word) × (i + 3 < length (now word)) ⌝ }
+    ensures { λ b. ⌜ (b < 16) × (drop i (now (word .entry)) ≡ digits 4 b ++ drop (i + 4) (now (word .entry))) ⌝ }
+{
+    wide(word[i]) * 8 + wide(word[i + 1]) * 4 + wide(word[i + 2]) * 2 + wide(word[i + 3])
+}
+
+// The four digits that fall out of the register with those of b added: the place of their remainder in the table.
+fn slot(r: Register, b: u64) -> usize
+    requires { ⌜ b < 16 ⌝ }
+    ensures { λ i. ⌜ (i ≡ bitXor (number r / 2 ^ 188) b) × (i < 16) ⌝ }
+{
+    ((r.high / 0x1000_0000_0000_0000) ^ b) as usize
+}
+
+// The register takes in four bits; e is the remainder of what falls out with those bits added.
+fn step4(r: Register, e: Register) -> Register
+    ensures { λ q. ⌜ ((g b : ℕ) → number e ≡ remainder 192 g (digits 4 (bitXor (number r / 2 ^ 188) b)) → number q ≡ remainderFrom 192 g (number r) (digits 4 b)) ⌝ }
+{
+    xor(up4(r), e)
+}
+
 // The remainder of word by the generator g.
 pub(crate) fn remainder(g: Register, word: &[u8]) -> Register
     requires { ⌜ Bits (now word) ⌝ }
     ensures { λ q. ⌜ number q ≡ remainder 192 (whole g) (now (word .entry)) ⌝ }
 {
+    let table = fours(g);
     let mut r = Register {
         high: 0,
         mid: 0,
         low: 0,
     };
     let mut i: usize = 0;
+    while i + 3 < word.len() {
+        r = step4(r, table[slot(r, four(word, i))]);
+        i += 4;
+    }
     while i < word.len() {
         r = step(r, g, word[i]);
         i += 1;
@@ -109,6 +186,10 @@ pub(crate) fn packed(word: &[u8]) -> Register
         low: 0,
     };
     let mut i: usize = word.len();
+    while 4 <= i {
+        i -= 4;
+        r = down4(r, four(word, i));
+    }
     while 0 < i {
         i -= 1;
         r = down(r, word[i] as u64);

@@ -2,26 +2,47 @@
 ghost use mathlib.Core.Path.{_≡_};
 ghost use Prim.Native.Nat.{suc, _-_, _<_, _≤_};
 ghost use lib.Dec.{eqb};
-ghost use lib.ListN.{length};
-ghost use Rattle.algebra.proofs.Polynomials.{ev};
-ghost use Rattle.field.proofs.Elements.{GF512, element-of};
-ghost use Rattle.field.proofs.Values.{series};
+ghost use lib.ListN.{length, replicate};
 ghost use mathlib.Core.Bool.{cond};
 ghost use Rattle.bch.specs.Words.{Bits};
-ghost use Rattle.bch.specs.Locators.{Lent, Small, Turned};
+ghost use Rattle.bch.specs.Locators.{Lent, Small, Plus, termAt, valueAt, Turned};
+use crate::terms;
 
-// The value of the locator, of degree at most len, at x.
-fn value(logs: &[u16; 512], powers: &[u16; 1022], locator: &[u16; 34], len: usize, x: u16) -> u16
-    requires { ⌜ Lent (now logs) (now powers) × (len < 34) × Small (now locator) ⌝ }
-    ensures { λ v. ⌜ (element-of v ≡ ev GF512 (suc len) (series (now (locator .entry))) (element-of x)) × (v < 512) ⌝ }
+// Adds the term c x^i at x = a^(from + p) to each sums[p]. 0 has no logarithm below 511, and its term is 0.
+fn term(logs: &[u16; 512], powers: &[u16; 1022], c: u16, i: usize, from: usize, sums: &mut [u16])
+    requires { ⌜ Lent (now logs) (now powers) × (c < 512) × (i < 34) × (from ≤ 512) ⌝ }
+    ensures { λ _. ⌜ Plus (termAt c i from) (now (sums .entry)) (now (sums .exit)) ⌝ }
 {
-    let mut v: u16 = 0;
-    let mut i: usize = len + 1;
-    while 0 < i {
-        i -= 1;
-        v = field::product_from(logs, powers, v, x) ^ locator[i];
+    let log = logs[c as usize] as usize;
+    if log < 511 {
+        terms::add(powers, (log + i * from) % 511, i, sums);
     }
-    v
+}
+
+// Adds the value of the locator, of degree at most len, at a^(from + p) to each sums[p].
+fn values(
+    logs: &[u16; 512],
+    powers: &[u16; 1022],
+    locator: &[u16; 34],
+    len: usize,
+    from: usize,
+    sums: &mut [u16],
+)
+    requires { ⌜ Lent (now logs) (now powers) × (len < 34) × Small (now locator) × (from ≤ 512) ⌝ }
+    ensures { λ _. ⌜ Plus (valueAt (now (locator .entry)) (suc len) from) (now (sums .entry)) (now (sums .exit)) ⌝ }
+{
+    let mut i: usize = 0;
+    while i <= len {
+        term(logs, powers, locator[i], i, from, sums);
+        i += 1;
+    }
+}
+
+// Sums of nothing, for the places of a word of any of the codes.
+fn none() -> [u16; 508]
+    ensures { λ r. ⌜ r ≡ replicate 508 0 ⌝ }
+{
+    [0u16; 508]
 }
 
 // The bit, flipped where v is 0.
@@ -53,14 +74,14 @@ pub(crate) fn flip(
     ensures { λ m. ⌜ Turned (now (locator .entry)) len (now (word .entry)) (now (copy .exit)) m ⌝ }
 {
     let n = word.len();
+    let mut sums = none();
+    values(logs, powers, locator, len, 512 - n, &mut sums[0..n]);
     let mut count: usize = 0;
-    let mut x = field::power((512 - n) as u64);
     let mut i: usize = 0;
     while i < n {
-        let v = value(logs, powers, locator, len, x);
+        let v = sums[i];
         count += hit(v);
         copy[i] = flipped(v, word[i]);
-        x = field::product_from(logs, powers, x, 2);
         i += 1;
     }
     count

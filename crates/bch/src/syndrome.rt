@@ -1,47 +1,54 @@
 // Syndromes: the values of what is left of a word at a, a^2, .., a^2t.
 ghost use mathlib.Core.Path.{_≡_};
-ghost use Prim.Native.Nat.{_<_, _≤_};
-ghost use Rattle.field.proofs.Elements.{element-of};
-ghost use Rattle.field.proofs.Values.{value};
+ghost use Prim.Native.Nat.{ℕ, suc, _+_, _*_, _<_, _≤_};
+ghost use lib.ListN.{length, replicate};
+ghost use Rattle.algebra.proofs.Powers.{pow};
+ghost use Rattle.field.specs.Tables.{powerTable};
+ghost use Rattle.field.proofs.Elements.{GF512, element-of};
+ghost use Rattle.field.proofs.Values.{a, series, value};
 ghost use Rattle.bch.specs.Registers.{number, tops};
-ghost use Rattle.bch.specs.Locators.{Lent, Syndromes};
+ghost use Rattle.bch.specs.Locators.{Syndromes};
 use crate::register;
 use crate::register::Register;
+use crate::terms;
 
-// The value at x of the polynomial whose r coefficients stand at the top of the register, highest power first.
-fn value(logs: &[u16; 512], powers: &[u16; 1022], left: Register, r: usize, x: u16) -> u16
-    requires { ⌜ Lent (now logs) (now powers) ⌝ }
-    ensures { λ v. ⌜ (element-of v ≡ value (element-of x) (tops r (number left))) × (v < 512) ⌝ }
+// Adds b a^(d (i + 1)) to each sums[i].
+fn term(powers: &[u16; 1022], b: u64, d: usize, sums: &mut [u16])
+    requires { ⌜ (now powers ≡ powerTable) × (b < 2) × (d < 511) ⌝ }
+    ensures { λ _. ⌜ ((i : ℕ) → i < length (now (sums .entry)) → series (now (sums .exit)) i ≡ GF512 .add (series (now (sums .entry)) i) (GF512 .mul (element-of b) (pow GF512 a (d + d * i)))) ⌝ }
+{
+    if b == 1 {
+        terms::add(powers, d, d, sums);
+    }
+}
+
+// Adds to each sums[i] the value at a^(i + 1) of the polynomial whose r coefficients stand at the top of the register, highest power first.
+fn values(powers: &[u16; 1022], left: Register, r: usize, sums: &mut [u16])
+    requires { ⌜ (now powers ≡ powerTable) × (r ≤ 192) ⌝ }
+    ensures { λ _. ⌜ ((i : ℕ) → i < length (now (sums .entry)) → series (now (sums .exit)) i ≡ GF512 .add (series (now (sums .entry)) i) (value (pow GF512 a (suc i)) (tops r (number left)))) ⌝ }
 {
     let mut rest = left;
-    let mut v: u16 = 0;
-    let mut i: usize = 0;
-    while i < r {
-        v = field::product_from(logs, powers, v, x) ^ (register::top(rest) as u16);
+    let mut d: usize = r;
+    while 0 < d {
+        d -= 1;
+        term(powers, register::top(rest), d, sums);
         rest = register::up(rest);
-        i += 1;
     }
-    v
+}
+
+// No sum yet.
+fn zeros() -> [u16; 32]
+    ensures { λ s. ⌜ s ≡ replicate 32 0 ⌝ }
+{
+    [0u16; 32]
 }
 
 // At i the value at a^(i+1), for each i below count.
-pub(crate) fn syndromes(
-    logs: &[u16; 512],
-    powers: &[u16; 1022],
-    left: Register,
-    r: usize,
-    count: usize,
-) -> [u16; 32]
-    requires { ⌜ Lent (now logs) (now powers) × (count ≤ 32) ⌝ }
+pub(crate) fn syndromes(powers: &[u16; 1022], left: Register, r: usize, count: usize) -> [u16; 32]
+    requires { ⌜ (now powers ≡ powerTable) × (r ≤ 192) × (count ≤ 32) ⌝ }
     ensures { λ s. ⌜ Syndromes (tops r (number left)) count s ⌝ }
 {
-    let mut out = [0u16; 32];
-    let mut i: usize = 0;
-    let mut x: u16 = 2;
-    while i < count {
-        out[i] = value(logs, powers, left, r, x);
-        x = field::product_from(logs, powers, x, 2);
-        i += 1;
-    }
+    let mut out = zeros();
+    values(powers, left, r, &mut out[0..count]);
     out
 }

@@ -6,8 +6,13 @@ use Rattle.bch.specs.Remainders.{reduced, step, remainderFrom, remainder}
 use Rattle.bch.specs.Codes.{encoded}
 use Rattle.points.specs.Grid.{placeOf}
 use Rattle.points.specs.Constellations.{tables, columns, points, pointOf}
+use Rattle.points.specs.Dqpsk.{phases, turn, phasePoint, turnedFrom, turned}
+use Rattle.payload.specs.Scrambler.{formed, shifted, scrambledFrom, scrambled}
+use Rattle.payload.specs.Check.{checkOf}
+use Rattle.payload.specs.Segments.{symbolOf, framed}
+use Rattle.payload.specs.CodedA.{pointsA}
 use Rattle.numbers.specs.Table.{table, Agrees}
 
 pub claim : Agrees table
-unfolding table encoded remainder remainderFrom step reduced digits placeOf pointOf points columns tables
-claim = (refl, (refl, (refl, (refl, (refl, (refl, (refl, (refl, (refl, (refl, tt))))))))))
+unfolding table scrambled scrambledFrom formed shifted checkOf encoded remainder remainderFrom step reduced digits pointsA framed symbolOf turned turnedFrom turn phasePoint phases placeOf pointOf points columns tables
+claim = (refl, (refl, (refl, (refl, (refl, (refl, (refl, (refl, (refl, (refl, (refl, (refl, (refl, (refl, tt))))))))))))))

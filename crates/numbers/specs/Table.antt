@@ -3,13 +3,17 @@
 use mathlib.Core.Path.{_≡_}
 use mathlib.Core.List.{List, [], _∷_, _++_}
 use Prim.Native.Nat.{ℕ, _-_}
-use lib.ListN.{replicate}
+use lib.ListN.{replicate, take}
 use Rattle.bch.specs.Words.{digits}
 use Rattle.bch.specs.Codes.{code1, code2, code3, encoded}
-use Rattle.points.specs.Levels.{+0, +1, +2, -2, -5}
+use Rattle.points.specs.Levels.{+0, +1, -1, +2, -2, -5}
 use Rattle.points.specs.Grid.{placeOf}
 use Rattle.points.specs.Constellations.{pointOf}
+use Rattle.points.specs.declared.Point.{Point}
 use Rattle.points.specs.declared.Point.the-variants.{At}
+use Rattle.payload.specs.Scrambler.{scrambled}
+use Rattle.payload.specs.Check.{checkOf}
+use Rattle.payload.specs.CodedA.{pointsA}
 
 pub record Row : Type 1 where
   pub Value : Type 0
@@ -23,11 +27,17 @@ row {A} ours document = record { Value = A; ours = ours; document = document }
 abbrev pub lastOf : ℕ → List ℕ
 lastOf k = replicate (k - 1) 0 ++ (1 ∷ [])
 
+-- the first five points are those of any mode and frame
 unfoldable pub table : List Row
 table =
+    row (scrambled (replicate 16 0)) (digits 16 0b1101101011010010) ∷
+    row (checkOf (replicate 464 0)) 0x0000_0000 ∷
+    row (checkOf (lastOf 464)) 0x04c1_1db7 ∷
     row (encoded code1 (lastOf 472)) (replicate 471 0 ++ digits 37 0o1630256304641) ∷
     row (encoded code2 (lastOf 432)) (replicate 431 0 ++ digits 73 0o1561350064670543777423345) ∷
     row (encoded code3 (lastOf 248)) (replicate 247 0 ++ digits 145 0o1126657202505666323017001652245562614435511600655) ∷
+    row {A = ℕ → List ℕ → List Point} (λ mode frame. take 5 (pointsA mode frame))
+    (λ mode frame. At -1 +0 ∷ At +1 +0 ∷ At -1 +0 ∷ At +1 +0 ∷ At +0 -1 ∷ []) ∷
     row (placeOf 1) 151 ∷
     row (placeOf 105) 255 ∷
     row (placeOf 106) 1 ∷

@@ -6,4 +6,3 @@ pub mod Lending
 pub mod Rules
 pub mod Turns
 pub mod Placement
-pub mod Numbers

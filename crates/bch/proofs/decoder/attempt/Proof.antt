@@ -30,16 +30,16 @@ shortest-requires c κs = search needs
 
 returns : tie.Need-returns
 returns c =
-    let start = c .before .before .before .before .before .before .before .before .before .before .before .before .before .before .before .before in
+    let start = c .before .before .before .before .before .before .before .before .before .before .before .before .before .before .before in
     let s = c .before .before .before .before .before .before .before .syndromes in
     none-near (start .pre .0 .sound) (start .args .bits .now) (start .pre .0 .bits) (start .pre .0 .long) (s .result) (rw (start .pre .1 .1) at (s .ensures))
     (c .before .before .shortest .result .locator) (c .before .before .shortest .ensures .found) (c .if1 .taken)
 
 flip-requires : tie.Need-flip-requires
 flip-requires c κs =
-    let start = c .before .before .before .before .before .before .before .before .before .before .before .before .before .before .before .before .before .before .before .before .before in
+    let start = c .before .before .before .before .before .before .before .before .before .before .before .before .before .before .before .before .before .before .before .before in
     let shortest = c .before .before .before .before .before .before .before .shortest in (
-      (record { logs-are = c .before .before .before .before .before .before .before .before .before .before .before .before .before .before .before .before .before .before .log-table .ensures; powers-are = c .before .before .before .before .before .before .before .before .before .before .before .before .before .before .before .before .before .power-table .ensures }, omega (arith, start .pre .0 .sound .few, c .before .before .before .before .before .if1 .left), shortest .ensures .small),
+      (record { logs-are = c .before .before .before .before .before .before .before .before .before .before .before .before .before .before .before .before .before .log-table .ensures; powers-are = c .before .before .before .before .before .before .before .before .before .before .before .before .before .before .before .before .power-table .ensures }, omega (arith, start .pre .0 .sound .few, c .before .before .before .before .before .if1 .left), shortest .ensures .small),
       (start .pre .0 .bits, omega (arith, start .pre .0 .long, start .pre .0 .sound .short), start .pre .1 .0 ∙ sym (start .pre .0 .long)),
     )
 
@@ -48,7 +48,7 @@ same-length c = search needs
 
 returns-2 : tie.Need-returns-2
 returns-2 c =
-    let start = c .before .before .before .before .before .before .before .before .before .before .before .before .before .before .before .before .before .before .before .before .before .before .before .before in
+    let start = c .before .before .before .before .before .before .before .before .before .before .before .before .before .before .before .before .before .before .before .before .before .before .before in
     let s = c .before .before .before .before .before .before .before .before .before .before .before .before .before .before .before .syndromes in
     candidate (start .pre .0 .sound) (start .args .bits .now) (start .pre .0 .bits) (start .pre .0 .long) (s .result) (rw (start .pre .1 .1) at (s .ensures))
     (c .before .before .before .before .before .before .before .before .before .before .shortest .result .locator) (c .before .before .before .before .before .before .before .before .before .before .shortest .ensures .found) (c .before .before .before .before .before .before .before .before .if1 .left) (c .before .before .flip .ensures)

@@ -1,13 +1,15 @@
 -- `bch::register::packed` meets its contract: the register holds the bits from i on.
 -- Assumes nothing.
-use mathlib.Core.Path.{_≡_, ap, _∙_}
-use mathlib.Core.List.{List, _∷_}
+use mathlib.Core.Path.{_≡_, sym, ap, _∙_}
+use mathlib.Core.List.{List, _∷_, _++_}
 use Prim.Native.Nat.{ℕ, suc, _+_, _-_, _*_, _/_, _^_, _≤_, _<_}
 use native.Mathlib.Omega.{arith}
 use lib.ListN.{length, getD, drop}
 use lib.Seq.{drop-cons, drop-length}
+use Rattle.bch.specs.Words.{digits}
 use Rattle.bch.specs.Registers.{number, packed}
 use Rattle.bch.proofs.Digits.{bits-at}
+use Rattle.bch.proofs.Tops.{packed-before}
 use borrow.Author.Needs.{needs}
 use Rattle.bch.proofs.register.packed.Statement.{statement}
 use Rattle.bch.proofs.register.packed.Tie as tie
@@ -21,42 +23,78 @@ turn w i x y pos h ey ex =
     = drop-cons w (i - 1) 0 (omega arith) ∙ ap (λ (n : ℕ). getD w (i - 1) 0 ∷ drop n w) s in
     rw (ey, ex, d)
 
+-- and with the four bits before i, the digits of b
+turn4 : (w : List ℕ) (i b x y : ℕ) → 4 ≤ i → b < 16 → drop (i - 4) w ≡ digits 4 b ++ drop (i - 4 + 4) w
+    → y ≡ b * 2 ^ 188 + x / 16 → x ≡ packed (drop i w) → y ≡ packed (drop (i - 4) w)
+turn4 w i b x y pos hb d ey ex =
+    let s : i - 4 + 4 ≡ i = omega arith in
+    rw (ey, ex, d, s) (sym (packed-before 4 b (drop i w) (omega arith) hb))
+
+-- the register x holds the word from i on
+abbrev Holds : List ℕ → ℕ → ℕ → Type 0
+Holds w x i = (i ≤ length w) × (x ≡ packed (drop i w))
+
 abbrev Inv-loop : tie.InvT-loop
-Inv-loop word r₀ i₀ r i = (i ≤ length word) × (number r ≡ packed (drop i word))
+Inv-loop word r₀ i₀ r i = Holds word (number r) i
 
 abbrev μ-loop : tie.MeasureT-loop
 μ-loop word r₀ i₀ r i = i
 
-loop-holds : tie.Need-loop-holds Inv-loop μ-loop
+abbrev Inv-loop2 : tie.InvT-loop2
+Inv-loop2 word r₀ i₀ r i = Holds word (number r) i
+
+abbrev μ-loop2 : tie.MeasureT-loop2
+μ-loop2 word r₀ i₀ r i = i
+
+loop-holds : tie.Need-loop-holds Inv-loop μ-loop Inv-loop2 μ-loop2
 unfolding packed
 loop-holds c = (omega arith, rw (drop-length (c .before .args .word .now)))
 
-sub-i : tie.Need-sub-i Inv-loop μ-loop
-sub-i c = search needs
+four-requires : tie.Need-four-requires Inv-loop μ-loop Inv-loop2 μ-loop2
+four-requires c κs = (c .before .before .before .pre, omega arith)
 
-shared-slice-read-down : tie.Need-shared-slice-read-down Inv-loop μ-loop
-shared-slice-read-down c = search needs
+down4-requires : tie.Need-down4-requires Inv-loop μ-loop Inv-loop2 μ-loop2
+down4-requires c κs = search needs
 
-cast-down : tie.Need-cast-down Inv-loop μ-loop
-cast-down c = omega (arith, c .shared-slice-known2 .given (c .before .before .loop .i - 1))
-
-down-requires : tie.Need-down-requires Inv-loop μ-loop
-down-requires c κs =
-    let s = c .before .before .before .before in
-    bits-at (s .args .word .now) (s .pre) (c .before .before .loop .i - 1)
-
-loop-less : tie.Need-loop-less Inv-loop μ-loop
+loop-less : tie.Need-loop-less Inv-loop μ-loop Inv-loop2 μ-loop2
 loop-less c = search needs
 
-loop-again : tie.Need-loop-again Inv-loop μ-loop
+loop-again : tie.Need-loop-again Inv-loop μ-loop Inv-loop2 μ-loop2
 loop-again c =
     let l = c .before .before .before .loop in
     let w = c .before .before .before .before .before .args .word .now in
+    let b = c .before .four .ensures in
+    (omega arith, turn4 w (l .i) _ (number (l .r)) _ (omega arith) (b .0) (b .1) (c .down4 .ensures) (l .inv .1))
+
+loop2-holds : tie.Need-loop2-holds Inv-loop μ-loop Inv-loop2 μ-loop2
+loop2-holds c = c .before .loop .inv
+
+sub-i : tie.Need-sub-i Inv-loop μ-loop Inv-loop2 μ-loop2
+sub-i c = search needs
+
+shared-slice-read-down : tie.Need-shared-slice-read-down Inv-loop μ-loop Inv-loop2 μ-loop2
+shared-slice-read-down c = search needs
+
+cast-down : tie.Need-cast-down Inv-loop μ-loop Inv-loop2 μ-loop2
+cast-down c = omega (arith, c .shared-slice-known2 .given (c .before .before .loop2 .i - 1))
+
+down-requires : tie.Need-down-requires Inv-loop μ-loop Inv-loop2 μ-loop2
+down-requires c κs =
+    let s = c .before .before .before .before .before .before in
+    bits-at (s .args .word .now) (s .pre) (c .before .before .loop2 .i - 1)
+
+loop2-less : tie.Need-loop2-less Inv-loop μ-loop Inv-loop2 μ-loop2
+loop2-less c = search needs
+
+loop2-again : tie.Need-loop2-again Inv-loop μ-loop Inv-loop2 μ-loop2
+loop2-again c =
+    let l = c .before .before .before .loop2 in
+    let w = c .before .before .before .before .before .before .before .args .word .now in
     (omega arith, turn w (l .i) (number (l .r)) _ (omega arith) (omega arith) (c .down .ensures) (l .inv .1))
 
-returns : tie.Need-returns Inv-loop μ-loop
+returns : tie.Need-returns Inv-loop μ-loop Inv-loop2 μ-loop2
 returns c =
-    let l = c .before .loop in
+    let l = c .before .loop2 in
     let e : l .i ≡ 0 = omega arith in
     rw e at (l .inv .1)
 
@@ -66,11 +104,18 @@ packed-spec =
     (tie.spec
     Inv-loop
     μ-loop
+    Inv-loop2
+    μ-loop2
     loop-holds
+    four-requires
+    down4-requires
+    loop-less
+    loop-again
+    loop2-holds
     sub-i
     shared-slice-read-down
     cast-down
     down-requires
-    loop-less
-    loop-again
+    loop2-less
+    loop2-again
     returns)

@@ -1,15 +1,17 @@
 -- `bch::register::remainder` meets its contract: what is left of the word is taken in after what the register has taken.
 -- Assumes nothing.
-use mathlib.Core.Path.{_≡_, refl, _∙_}
-use mathlib.Core.List.{List}
+use mathlib.Core.Path.{_≡_, refl, sym, ap, _∙_}
+use mathlib.Core.List.{List, _++_}
 use Prim.Native.Nat.{ℕ, _+_, _-_, _≤_, _<_}
 use native.Mathlib.Omega.{arith}
 use native.Mathlib.Numerals.{add-one}
 use lib.ListN.{length, getD, drop, drop-of-length-le}
 use lib.Seq.{drop-cons}
+use Rattle.bch.specs.Words.{digits}
 use Rattle.bch.specs.Registers.{number, whole}
 use Rattle.bch.specs.Remainders.{step, remainder, remainderFrom}
 use Rattle.bch.proofs.Digits.{bits-at}
+use Rattle.bch.proofs.Remainders.{from-append}
 use borrow.Author.Needs.{needs}
 use Rattle.bch.proofs.register.remainder.Statement.{statement}
 use Rattle.bch.proofs.register.remainder.Tie as tie
@@ -20,45 +22,100 @@ turn : (g x y : ℕ) (w : List ℕ) (i : ℕ) → i < length w → y ≡ step 19
 unfolding remainderFrom
 turn g x y w i h e = rw (e, add-one, drop-cons w i 0)
 
+-- and after the four bits from i on, the digits of b
+turn4 : (g x y b : ℕ) (w : List ℕ) (i : ℕ) → drop i w ≡ digits 4 b ++ drop (i + 4) w → y ≡ remainderFrom 192 g x (digits 4 b)
+    → remainderFrom 192 g y (drop (i + 4) w) ≡ remainderFrom 192 g x (drop i w)
+turn4 g x y b w i d e = rw (e, d) (sym (from-append 192 g x (digits 4 b) (drop (i + 4) w)))
+
 done : (g x : ℕ) (w : List ℕ) (i : ℕ) → length w ≤ i → x ≡ remainderFrom 192 g x (drop i w)
 unfolding remainderFrom
 done g x w i h = rw (drop-of-length-le w h)
 
+-- the register x has taken in the word up to i
+abbrev Taken : ℕ → List ℕ → ℕ → ℕ → Type 0
+Taken g w x i = (i ≤ length w) × (remainderFrom 192 g x (drop i w) ≡ remainder 192 g w)
+
 abbrev Inv-loop : tie.InvT-loop
-Inv-loop g word r₀ i₀ r i =
-    (i ≤ length word) × (remainderFrom 192 (whole g) (number r) (drop i word) ≡ remainder 192 (whole g) word)
+Inv-loop g word table r₀ i₀ r i = Taken (whole g) word (number r) i
 
 abbrev μ-loop : tie.MeasureT-loop
-μ-loop g word r₀ i₀ r i = length word - i
+μ-loop g word table r₀ i₀ r i = length word - i
 
-loop-holds : tie.Need-loop-holds Inv-loop μ-loop
+abbrev Inv-loop2 : tie.InvT-loop2
+Inv-loop2 g word r₀ i₀ r i = Taken (whole g) word (number r) i
+
+abbrev μ-loop2 : tie.MeasureT-loop2
+μ-loop2 g word r₀ i₀ r i = length word - i
+
+fours-requires : tie.Need-fours-requires Inv-loop μ-loop Inv-loop2 μ-loop2
+fours-requires c κs = search needs
+
+loop-holds : tie.Need-loop-holds Inv-loop μ-loop Inv-loop2 μ-loop2
 unfolding remainder
 loop-holds c = (omega arith, refl)
 
-shared-slice-read-step : tie.Need-shared-slice-read-step Inv-loop μ-loop
-shared-slice-read-step c = search needs
+add-loop : tie.Need-add-loop Inv-loop μ-loop Inv-loop2 μ-loop2
+add-loop c = search needs
 
-step-requires : tie.Need-step-requires Inv-loop μ-loop
-step-requires c κs =
-    let s = c .before .before .before .before in
-    bits-at (s .args .word .now) (s .pre) (c .before .before .loop .i)
+four-requires : tie.Need-four-requires Inv-loop μ-loop Inv-loop2 μ-loop2
+four-requires c κs = search needs
 
-add-i : tie.Need-add-i Inv-loop μ-loop
+slot-requires : tie.Need-slot-requires Inv-loop μ-loop Inv-loop2 μ-loop2
+slot-requires c κs = search needs
+
+mul-step4 : tie.Need-mul-step4 Inv-loop μ-loop Inv-loop2 μ-loop2
+mul-step4 c = search needs
+
+array-copy-out-step4 : tie.Need-array-copy-out-step4 Inv-loop μ-loop Inv-loop2 μ-loop2
+array-copy-out-step4 c = search needs
+
+step4-requires : tie.Need-step4-requires Inv-loop μ-loop Inv-loop2 μ-loop2
+step4-requires c κs = search needs
+
+add-i : tie.Need-add-i Inv-loop μ-loop Inv-loop2 μ-loop2
 add-i c = search needs
 
-loop-less : tie.Need-loop-less Inv-loop μ-loop
+loop-less : tie.Need-loop-less Inv-loop μ-loop Inv-loop2 μ-loop2
 loop-less c = search needs
 
-loop-again : tie.Need-loop-again Inv-loop μ-loop
+loop-again : tie.Need-loop-again Inv-loop μ-loop Inv-loop2 μ-loop2
 loop-again c =
-    let l = c .before .before .before .loop in
-    let s = c .before .before .before .before .before .args in
+    let l = c .before .before .before .before .before .loop in
+    let f = c .before .before .before .before .before .before in
+    let s = f .before .before .args in
+    let slot = c .before .before .slot .ensures in (
+      omega arith,
+      turn4 (whole (s .g)) (number (l .r)) _ _ (s .word .now) (l .i) (c .before .before .before .four .ensures .1)
+          (c .step4 .ensures _ _ (f .fours .ensures _ _ (slot .1) ∙ ap (λ (k : ℕ). remainder 192 (whole (s .g)) (digits 4 k)) (slot .0))) ∙ l .inv .1,
+    )
+
+loop2-holds : tie.Need-loop2-holds Inv-loop μ-loop Inv-loop2 μ-loop2
+loop2-holds c = c .before .loop .inv
+
+shared-slice-read-step : tie.Need-shared-slice-read-step Inv-loop μ-loop Inv-loop2 μ-loop2
+shared-slice-read-step c = search needs
+
+step-requires : tie.Need-step-requires Inv-loop μ-loop Inv-loop2 μ-loop2
+step-requires c κs =
+    let s = c .before .before .before .before .before .before .before in
+    bits-at (s .args .word .now) (s .pre) (c .before .before .loop2 .i)
+
+add-i-2 : tie.Need-add-i-2 Inv-loop μ-loop Inv-loop2 μ-loop2
+add-i-2 c = search needs
+
+loop2-less : tie.Need-loop2-less Inv-loop μ-loop Inv-loop2 μ-loop2
+loop2-less c = search needs
+
+loop2-again : tie.Need-loop2-again Inv-loop μ-loop Inv-loop2 μ-loop2
+loop2-again c =
+    let l = c .before .before .before .loop2 in
+    let s = c .before .before .before .before .before .before .before .before .args in
     (omega arith, turn (whole (s .g)) (number (l .r)) _ (s .word .now) (l .i) (omega arith) (c .step .ensures) ∙ l .inv .1)
 
-returns : tie.Need-returns Inv-loop μ-loop
+returns : tie.Need-returns Inv-loop μ-loop Inv-loop2 μ-loop2
 returns c =
-    let l = c .before .loop in
-    let s = c .before .before .before .args in
+    let l = c .before .loop2 in
+    let s = c .before .before .before .before .before .before .args in
     done (whole (s .g)) (number (l .r)) (s .word .now) (l .i) (omega arith) ∙ l .inv .1
 
 pub remainder-spec : {M : Type 1} → statement M
@@ -67,10 +124,23 @@ remainder-spec =
     (tie.spec
     Inv-loop
     μ-loop
+    Inv-loop2
+    μ-loop2
+    fours-requires
     loop-holds
-    shared-slice-read-step
-    step-requires
+    add-loop
+    four-requires
+    slot-requires
+    mul-step4
+    array-copy-out-step4
+    step4-requires
     add-i
     loop-less
     loop-again
+    loop2-holds
+    shared-slice-read-step
+    step-requires
+    add-i-2
+    loop2-less
+    loop2-again
     returns)

@@ -1,63 +1,76 @@
--- `bch::search::flip` meets its contract: the places are tried one after the other.
+-- `bch::search::flip` meets its contract: the sums are the locator's values, and the places are tried one after the other.
 -- Assumes nothing.
-use mathlib.Core.Path.{_≡_, ap, _∙_}
-use Prim.Native.Nat.{suc, _+_, _-_, _≤_}
+use Prim.Native.Nat.{_-_, _≤_, _<_}
+use native.Mathlib.Nat.{sub-zero}
 use native.Mathlib.Omega.{arith}
 use lib.ListN.{length}
-use Rattle.algebra.proofs.Powers.{pow}
-use Rattle.field.proofs.Elements.{GF512, element-of}
-use Rattle.field.proofs.Values.{a, series, of-power}
-use Rattle.algebra.proofs.Polynomials.{ev}
-use Rattle.bch.specs.Locators.{atPlace}
 use Rattle.bch.proofs.Digits.{bits-at}
-use Rattle.bch.proofs.Flips.{hit-le, next-place, Upto, upto-none, upto-all, upto-next}
+use Rattle.bch.proofs.Flips.{Valued, hit-one, valued, Upto, upto-none, upto-all, upto-next}
 use borrow.Author.Needs.{needs}
 use Rattle.bch.proofs.search.flip.Statement.{statement}
 use Rattle.bch.proofs.search.flip.Tie as tie
 
 abbrev Inv-loop : tie.InvT-loop
-Inv-loop logs powers locator len word copy₀ n count₀ x₀ i₀ copy count x i =
-    (i ≤ length word) × Upto locator len word copy count i × (element-of x ≡ pow GF512 a (512 - length word + i))
+Inv-loop logs powers locator len word copy₀ n sums count₀ i₀ copy count i =
+    (i ≤ length word) × Upto locator len word copy count i × Valued locator len (length word) sums
 
 abbrev μ-loop : tie.MeasureT-loop
-μ-loop logs powers locator len word copy₀ n count₀ x₀ i₀ copy count x i = length word - i
+μ-loop logs powers locator len word copy₀ n sums count₀ i₀ copy count i = length word - i
 
-sub-power : tie.Need-sub-power Inv-loop μ-loop
-sub-power c = search needs
+none-requires : tie.Need-none-requires Inv-loop μ-loop
+none-requires c κs = search needs
 
-power-requires : tie.Need-power-requires Inv-loop μ-loop
-power-requires c κs = search needs
+sub-values : tie.Need-sub-values Inv-loop μ-loop
+sub-values c = search needs
+
+sub-values-2 : tie.Need-sub-values-2 Inv-loop μ-loop
+sub-values-2 c = search needs
+
+part-sums-start : tie.Need-part-sums-start Inv-loop μ-loop
+part-sums-start c = search needs
+
+part-sums-end : tie.Need-part-sums-end Inv-loop μ-loop
+part-sums-end c = search needs
+
+values-requires : tie.Need-values-requires Inv-loop μ-loop
+values-requires c κs = search needs
 
 loop-holds : tie.Need-loop-holds Inv-loop μ-loop
 loop-holds c =
-    let pre = c .before .before .before .pre in (
+    let start = c .before .before .before .before .before .before in
+    let args = start .args in
+    let none = c .before .before .before .none in
+    let values = rw sub-zero at (c .before .values .ensures) in (
       omega arith,
-      upto-none _ _ _ _ (pre .1 .2),
-      ap element-of (c .power .ensures) ∙ of-power _ ∙ ap (pow GF512 a) (omega arith),
+      upto-none _ _ _ _ (start .pre .1 .2),
+      valued (args .locator .now) (args .len) (length (args .word .now)) 508 (none .ensures) (start .pre .1 .1) values _,
     )
 
-value-requires : tie.Need-value-requires Inv-loop μ-loop
-value-requires c κs = search needs
+mul-v : tie.Need-mul-v Inv-loop μ-loop
+mul-v c = search needs
+
+array-read-v : tie.Need-array-read-v Inv-loop μ-loop
+array-read-v c = search needs
 
 hit-requires : tie.Need-hit-requires Inv-loop μ-loop
 hit-requires c κs = search needs
 
 add-count : tie.Need-add-count Inv-loop μ-loop
-add-count c = omega (arith, c .before .before .before .loop .inv .1 .few, c .hit .ensures, hit-le (c .before .value .result))
+add-count c =
+    let loop = c .before .before .loop in
+    let one = hit-one (loop .inv .2) (loop .i) (c .hit .ensures) in
+    omega (arith, loop .inv .1 .few)
 
 shared-slice-read-flipped : tie.Need-shared-slice-read-flipped Inv-loop μ-loop
 shared-slice-read-flipped c = search needs
 
 flipped-requires : tie.Need-flipped-requires Inv-loop μ-loop
 flipped-requires c κs =
-    let start = c .before .before .before .before .before .before .before .before in
-    bits-at (start .args .word .now) (start .pre .1 .0) (c .before .before .before .before .loop .i)
+    let start = c .before .before .before .before .before .before .before .before .before .before in
+    bits-at (start .args .word .now) (start .pre .1 .0) (c .before .before .before .loop .i)
 
 slice-write-copy : tie.Need-slice-write-copy Inv-loop μ-loop
 slice-write-copy c = search needs
-
-product-from-requires : tie.Need-product-from-requires Inv-loop μ-loop
-product-from-requires c κs = search needs
 
 add-i : tie.Need-add-i Inv-loop μ-loop
 add-i c = search needs
@@ -67,15 +80,14 @@ loop-less c = search needs
 
 loop-again : tie.Need-loop-again Inv-loop μ-loop
 loop-again c =
-    let start = c .before .before .before .before .before .before .before .before .before .before in
-    let loop = c .before .before .before .before .before .before .loop in
-    let value = c .before .before .before .before .value in
-    let is : element-of (value .result) ≡ atPlace (start .args .locator .now) (start .args .len) (length (start .args .word .now)) (loop .i)
-    = value .ensures .0 ∙ ap (ev GF512 (suc (start .args .len)) (series (start .args .locator .now))) (loop .inv .2) in (
+    let start = c .before .before .before .before .before .before .before .before .before .before .before in
+    let loop = c .before .before .before .before .loop in
+    let here : loop .i < length (start .args .word .now) = omega arith in
+    let each = loop .inv .2 .each (loop .i) here in (
       omega arith,
-      rw (c .before .flipped .ensures, c .before .before .before .hit .ensures)
-          (upto-next _ _ _ _ _ _ (loop .inv .1) (start .pre .1 .0) (omega arith) (value .result) (value .ensures .1) is),
-      ap element-of (c .product-from .ensures) ∙ next-place (start .pre .0 .0) (loop .x) _ (loop .i) (loop .inv .2),
+      rw (c .flipped .ensures, c .before .before .hit .ensures)
+          (upto-next _ _ _ _ _ _ (loop .inv .1) (start .pre .1 .0) here _ (loop .inv .2 .small (loop .i) here) each),
+      loop .inv .2,
     )
 
 same-length : tie.Need-same-length Inv-loop μ-loop
@@ -90,16 +102,20 @@ flip-spec =
     (tie.spec
     Inv-loop
     μ-loop
-    sub-power
-    power-requires
+    none-requires
+    sub-values
+    sub-values-2
+    part-sums-start
+    part-sums-end
+    values-requires
     loop-holds
-    value-requires
+    mul-v
+    array-read-v
     hit-requires
     add-count
     shared-slice-read-flipped
     flipped-requires
     slice-write-copy
-    product-from-requires
     add-i
     loop-less
     loop-again

@@ -1,0 +1,168 @@
+-- Terms added to the entries of a list: to the entry k the power a^(e + d k), read from the table of powers; so a term of a locator, and all of them.
+-- Assumes nothing.
+use mathlib.Core.Path.{_≡_, refl, sym, ap, ap₂, _∙_}
+use mathlib.Core.Logic.{_≢_}
+use mathlib.Core.List.{List}
+use Prim.Native.Nat.{ℕ, suc, _+_, _*_, _%_, _≤_, _<_}
+use native.Mathlib.Nat.{mod-lt}
+use native.Mathlib.Decide.{decLt, ℕ-discrete}
+use native.Mathlib.Omega.{arith}
+use lib.Bits.{bitXor, xor-lt}
+use lib.Dec.{lit<}
+use lib.ListN.{length, getD, set, length-set}
+use lib.Seq.{getD-set-same, getD-set-other}
+use Rattle.algebra.proofs.Fields.{add-zero, add-assoc, zero-mul}
+use Rattle.algebra.proofs.Polynomials.{ev-zero, ev-last}
+use Rattle.algebra.proofs.Powers.{pow, pow-add, pow-mul}
+use Rattle.field.specs.Field.{power, product}
+use Rattle.field.specs.Tables.{powerTable}
+use Rattle.field.proofs.Powers.{power-lt, product-power, power-mod, power-table-at}
+use Rattle.field.proofs.Logarithms.{log, log-0, log-lt, power-log}
+use Rattle.field.proofs.Elements.{GF512, element-of, of-0, of-xor}
+use Rattle.field.proofs.Values.{a, series, of-power}
+use Rattle.bch.specs.Locators.{Lent, Small, Added, Plus, termAt, valueAt}
+
+-- ---- exponents
+
+module _ (e d i at : ℕ) (is : power at ≡ power (e + d * i)) where
+  -- k entries further on
+  power-on : (s k : ℕ) → s ≡ d * k % 511 → power (at + s) ≡ power (e + d * (i + k))
+  power-on s k h =
+      let n : e + d * i + d * k ≡ e + d * (i + k) = omega arith in
+      sym (product-power at s) ∙ ap₂ product is (ap power h ∙ power-mod (d * k)) ∙ product-power (e + d * i) (d * k) ∙ ap power n
+
+  pub power-on-mod : (s k : ℕ) → s ≡ d * k % 511 → power ((at + s) % 511) ≡ power (e + d * (i + k))
+  power-on-mod s k h = power-mod (at + s) ∙ power-on s k h
+
+  module _ {powers : List ℕ} (table : powers ≡ powerTable) (low : at < 511) where
+    pub entry-here : getD powers at 0 ≡ power (e + d * i)
+    entry-here = rw table (power-table-at at (omega arith)) ∙ is
+
+    pub entry-on : (s k : ℕ) → s ≡ d * k % 511 → getD powers (at + s) 0 ≡ power (e + d * (i + k))
+    entry-on s k h =
+        let small : s < 511 = rw h (mod-lt (d * k) (lit< tt)) in
+        rw table (power-table-at (at + s) (omega arith)) ∙ power-on s k h
+
+-- ---- entries
+
+-- p added to the entry i
+abbrev pub plusAt : List ℕ → ℕ → ℕ → List ℕ
+plusAt l i p = set l i (bitXor (getD l i 0) p)
+
+module _ (e d : ℕ) (old : List ℕ) where
+  -- the first n entries have their terms
+  pub record Begun (new : List ℕ) (n : ℕ) : Type 0 where
+    pub long : length new ≡ length old
+    pub done : (k : ℕ) → k < n → getD new k 0 ≡ bitXor (getD old k 0) (power (e + d * k))
+    pub kept : (k : ℕ) → n ≤ k → getD new k 0 ≡ getD old k 0
+
+  pub begun-none : Begun old 0
+  begun-none = record { long = refl; done = λ k h. absurd (omega arith); kept = λ k h. refl }
+
+  -- p is the term of the entry i, and n comes after i
+  pub begun-more : {new : List ℕ} {i p : ℕ} → Begun new i → i < length new → (n : ℕ) → p ≡ power (e + d * i) → n ≡ suc i
+      → Begun (plusAt new i p) n
+  begun-more {new} {i} {p} b room n is next = record {
+    long = length-set new i _ ∙ b .long;
+    done = λ k h. done-at k h (decLt k i);
+    kept = λ k h. getD-set-other new i k _ 0 (omega arith) ∙ b .kept k (omega arith);
+  }
+    where
+      done-at : (k : ℕ) → k < n → Dec (k < i) → getD (plusAt new i p) k 0 ≡ bitXor (getD old k 0) (power (e + d * k))
+      done-at k h (yes l) = getD-set-other new i k _ 0 (omega arith) ∙ b .done k l
+      done-at k h (no l) =
+          let same : k ≡ i = omega arith in
+          rw same (getD-set-same new i _ 0 room ∙ ap₂ bitXor (b .kept i (omega arith)) is)
+
+  -- four at a turn
+  pub begun-four : {new : List ℕ} {i p q r s : ℕ} → Begun new i → i + 3 < length new
+      → p ≡ power (e + d * i) → q ≡ power (e + d * (i + 1)) → r ≡ power (e + d * (i + 2)) → s ≡ power (e + d * (i + 3))
+      → Begun (plusAt (plusAt (plusAt (plusAt new i p) (i + 1) q) (i + 2) r) (i + 3) s) (i + 4)
+  begun-four {i = i} b room hp hq hr hs =
+      let b1 = begun-more b (omega arith) (i + 1) hp (omega arith) in
+      let b2 = begun-more b1 (omega arith) (i + 2) hq (omega arith) in
+      let b3 = begun-more b2 (omega arith) (i + 3) hr (omega arith) in
+      begun-more b3 (omega arith) (i + 4) hs (omega arith)
+
+  pub begun-all : {new : List ℕ} {n : ℕ} → Begun new n → length old ≤ n → Added e d old new
+  unfolding series
+  begun-all {new} {n} b all = record {
+    long = b .long;
+    each = λ k h. ap element-of (b .done k (omega arith)) ∙ of-xor _ _ ∙ ap (GF512 .add (series old k)) (of-power _);
+    small = λ s k. small-at s k (decLt k n);
+  }
+    where
+      small-at : Small old → (k : ℕ) → Dec (k < n) → getD new k 0 < 512
+      small-at s k (yes h) = rw (b .done k h) (xor-lt 9 _ _ (s k) (power-lt _))
+      small-at s k (no h) = rw (b .kept k (omega arith)) (s k)
+
+-- ---- sums of what is added
+
+plus-none : {f : ℕ → GF512 .Element} (l : List ℕ) → ((p : ℕ) → f p ≡ GF512 .zero) → Plus f l l
+plus-none {f} l z = record { long = refl; each = λ p h. sym (rw (z p) (add-zero GF512 (series l p))); small = λ s. s }
+
+plus-both : {f g h : ℕ → GF512 .Element} {old mid new : List ℕ} → Plus f old mid → Plus g mid new
+    → ((p : ℕ) → h p ≡ GF512 .add (f p) (g p)) → Plus h old new
+plus-both u v e = record {
+  long = v .long ∙ u .long;
+  each = λ p k. v .each p (omega arith) ∙ rw (u .each p k, e p) (add-assoc GF512 _ _ _);
+  small = λ s. v .small (u .small s);
+}
+
+-- ---- a term, by the logarithm of its coefficient
+
+pow-mod : (n : ℕ) → pow GF512 a (n % 511) ≡ pow GF512 a n
+pow-mod n = sym (of-power (n % 511)) ∙ ap element-of (power-mod n) ∙ of-power n
+
+term-power : (c i from p : ℕ) → c ≢ 0 → c < 512 → pow GF512 a ((log c + i * from) % 511 + i * p) ≡ termAt c i from p
+term-power c i from p z h =
+    let n : log c + i * from + i * p ≡ log c + (from + p) * i = omega arith in
+    pow-add GF512 a ((log c + i * from) % 511) (i * p) ∙ ap (λ u. GF512 .mul u (pow GF512 a (i * p))) (pow-mod (log c + i * from))
+    ∙ sym (pow-add GF512 a (log c + i * from) (i * p)) ∙ ap (pow GF512 a) n ∙ pow-add GF512 a (log c) ((from + p) * i)
+    ∙ ap₂ (GF512 .mul) (sym (of-power (log c)) ∙ ap element-of (power-log c z h)) (sym (pow-mul GF512 a (from + p) i))
+
+module _ {logs powers : List ℕ} (lent : Lent logs powers) (c : ℕ) (h : c < 512) where
+  log-of : getD logs c 0 ≡ log c
+  unfolding log
+  log-of = ap (λ (l : List ℕ). getD l c 0) (lent .logs-are)
+
+  log-zero : c ≡ 0 → getD logs c 0 ≡ 1021
+  log-zero z = log-of ∙ ap log z ∙ log-0
+
+  log-low : c ≢ 0 → getD logs c 0 < 511
+  log-low z = rw log-of (log-lt c z h)
+
+  pub log-le : getD logs c 0 ≤ 1021
+  log-le = go (ℕ-discrete c 0)
+    where
+      go : Dec (c ≡ 0) → getD logs c 0 ≤ 1021
+      go (yes z) = omega (arith, log-zero z)
+      go (no z) = omega (arith, log-low z)
+
+  module _ (i from : ℕ) where
+    pub plus-term : {old new : List ℕ} → getD logs c 0 < 511 → Added ((getD logs c 0 + i * from) % 511) i old new → Plus (termAt c i from) old new
+    plus-term low u = record {
+      long = u .long;
+      each = λ p k. u .each p k ∙ ap (GF512 .add _) (rw log-of (term-power c i from p (λ z. omega (arith, log-zero z)) h));
+      small = u .small;
+    }
+
+    -- 0 has no logarithm, and its term is 0
+    pub plus-nothing : (l : List ℕ) → 511 ≤ getD logs c 0 → Plus (termAt c i from) l l
+    plus-nothing l high =
+        plus-none l (λ p. ap (λ (u : GF512 .Element). GF512 .mul u (pow GF512 (pow GF512 a (from + p)) i)) (zero-is (ℕ-discrete c 0)) ∙ zero-mul GF512 _)
+      where
+        zero-is : Dec (c ≡ 0) → element-of c ≡ GF512 .zero
+        zero-is (yes z) = ap element-of z ∙ of-0
+        zero-is (no z) = absurd (omega (arith, log-low z))
+
+-- ---- all terms of a locator
+
+module _ (locator : List ℕ) (from : ℕ) where
+  pub values-none : (l : List ℕ) → Plus (valueAt locator 0 from) l l
+  values-none l = plus-none l (λ p. ev-zero GF512 (series locator) _)
+
+  pub values-more : {n k : ℕ} {old mid new : List ℕ} → Plus (valueAt locator n from) old mid
+      → Plus (termAt (getD locator n 0) n from) mid new → k ≡ suc n → Plus (valueAt locator k from) old new
+  unfolding series
+  values-more {n} u v e = rw e (plus-both u v (λ p. ev-last GF512 n (series locator) _))

@@ -1,0 +1,23 @@
+-- The laws of the crate, in the order in which they rest on each other.
+pub mod Numbers
+pub mod Octets
+pub mod Scrambling
+pub mod Checks
+pub mod Coding
+pub mod Informing
+pub mod Copies
+pub mod Fields
+pub mod Framing
+pub mod Indices
+pub mod Readings
+pub mod Placings
+pub mod Turnings
+pub mod Verdicts
+pub mod Bursts
+pub mod Deliveries
+pub mod Settling
+pub mod Codewords
+pub mod Rescues
+pub mod UniqueA
+pub mod OnceA
+pub mod TripsA

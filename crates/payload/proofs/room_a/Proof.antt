@@ -1,0 +1,14 @@
+-- `payload::room_a` meets its contract: first the one list, then the other.
+-- Assumes nothing.
+use Rattle.payload.proofs.Verdicts.{short-is, long-is}
+use Rattle.payload.proofs.room_a.Statement.{statement}
+use Rattle.payload.proofs.room_a.Tie as tie
+
+returns : tie.Need-returns
+returns c = short-is 512 (c .before .args .i .now) (c .before .args .q .now) (c .if1 .taken)
+
+returns-2 : tie.Need-returns-2
+returns-2 c = long-is 512 (c .before .args .i .now) (c .before .args .q .now) (c .if1 .left)
+
+pub room-a-spec : {M : Type 1} → statement M
+room-a-spec = tie.close (tie.spec returns returns-2)
