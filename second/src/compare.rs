@@ -64,9 +64,8 @@ fn differences(requests: &[Request], expected: &[Vec<u8>], got: &Got) -> Vec<(us
 /// Our response to a request.
 fn answered(mut request: Request, tally: &mut Tally) -> Vec<u8> {
     let answer = request.call();
-    let response = response(&request, answer);
-    tally.add(request.job(), response[0]);
-    response
+    tally.add(&request, &answer);
+    response(&request, answer)
 }
 
 /// What another program did.

@@ -11,7 +11,7 @@ second requests SEED COUNT [JOBS]               writes requests for a trial prog
 second responses < REQUESTS                     writes the responses that are expected
 second compare SEED COUNT [JOBS] -- COMMAND..   drives a trial program, prints differences and 'N passed, M failed'
 second one SEED INDEX [JOBS]                    writes the single request of this index
-second tally SEED COUNT [JOBS]                  counts the refusal numbers of each job
+second tally SEED COUNT [JOBS]                  counts the refusal numbers of each job, their places, and what came as far as the decoder
 second numbers                                  checks document 01's numbers
 second field                                    writes all products and inverses of GF(512)
 second points                                   writes all points, and the label of every point near them

@@ -1,13 +1,27 @@
-//! How often each refusal number of each job occurs among the requests of a seed.
+//! What the requests of a seed bring up: each refusal number of each job and its places, and of the words, bursts and frames that came as
+//! far as the decoder, by code or mode, how many, and which counts.
 
+use crate::answer::Answer;
 use crate::hostile;
-use crate::trial::JOBS;
+use crate::trial::{Request, JOBS};
+use std::collections::{BTreeMap, BTreeSet};
 use std::fmt;
 
 #[derive(Default)]
 pub struct Tally {
-    /// By job - 1 and number.
+    /// How often, by job - 1 and number.
     pub seen: [[u64; 11]; 6],
+    /// At which places, by job - 1 and number.
+    places: [[BTreeSet<u64>; 11]; 6],
+    /// What came as far as the decoder, by job and by code or mode.
+    reached: BTreeMap<(u8, u8), Reached>,
+}
+
+#[derive(Default)]
+struct Reached {
+    calls: u64,
+    mended: BTreeSet<u64>,
+    protected: BTreeSet<u64>,
 }
 
 impl Tally {
@@ -16,26 +30,75 @@ impl Tally {
         let mut tally = Tally::default();
         for index in 0..count {
             let mut request = hostile::request(seed, index, jobs);
-            let number = request.call().map_or_else(|refusal| refusal.number(), |_| 0);
-            tally.add(request.job(), number);
+            let answer = request.call();
+            tally.add(&request, &answer);
         }
         tally
     }
 
-    pub fn add(&mut self, job: u8, number: u8) {
+    pub fn add(&mut self, request: &Request, answer: &Answer) {
+        let job = request.job();
+        let (number, place) = answer.map_or_else(|refusal| (refusal.number(), refusal.place()), |_| (0, 0));
         self.seen[job as usize - 1][number as usize] += 1;
+        self.places[job as usize - 1][number as usize].insert(place);
+        // After the checks a decoding job is accepted, or refused with 9 or 10.
+        if matches!(job, 2 | 4 | 6) && matches!(number, 0 | 9 | 10) {
+            let reached = self.reached.entry((job, request.code_or_mode())).or_default();
+            reached.calls += 1;
+            if let Ok(counts) = answer {
+                reached.mended.insert(counts.mended);
+                reached.protected.insert(counts.protected);
+            }
+        }
     }
 }
 
 impl fmt::Display for Tally {
     fn fmt(&self, f: &mut fmt::Formatter) -> fmt::Result {
-        write!(f, "{:12}", "number")?;
-        (0..=10).try_for_each(|number| write!(f, "{number:>8}"))?;
+        let head = |f: &mut fmt::Formatter, title| {
+            write!(f, "{title:12}")?;
+            (0..=10).try_for_each(|number| write!(f, "{number:>8}"))
+        };
+        head(f, "number")?;
         for (job, seen) in JOBS.iter().zip(&self.seen) {
             write!(f, "\n{job:12}")?;
             seen.iter().try_for_each(|count| write!(f, "{count:>8}"))?;
         }
+        writeln!(f)?;
+        head(f, "places")?;
+        for (job, places) in JOBS.iter().zip(&self.places) {
+            write!(f, "\n{job:12}")?;
+            places.iter().try_for_each(|places| write!(f, "{:>8}", places.len()))?;
+        }
+        for ((job, choice), reached) in &self.reached {
+            let name = JOBS[*job as usize - 1];
+            let what = if *job == 2 { "code" } else { "mode" };
+            write!(f, "\n{name}, {what} {choice}: {} came as far as the decoder; mended {}", reached.calls, Runs(&reached.mended))?;
+            if *job == 4 {
+                write!(f, "; protected {}", Runs(&reached.protected))?;
+            }
+        }
         Ok(())
+    }
+}
+
+/// Numbers in rising order, runs of them as `first..last`.
+struct Runs<'a>(&'a BTreeSet<u64>);
+
+impl fmt::Display for Runs<'_> {
+    fn fmt(&self, f: &mut fmt::Formatter) -> fmt::Result {
+        let mut runs: Vec<(u64, u64)> = Vec::new();
+        for &number in self.0 {
+            match runs.last_mut() {
+                Some((_, last)) if *last + 1 == number => *last = number,
+                _ => runs.push((number, number)),
+            }
+        }
+        let texts: Vec<String> = runs
+            .iter()
+            .map(|(first, last)| if first == last { first.to_string() } else { format!("{first}..{last}") })
+            .collect();
+        f.write_str(&texts.join(", "))
     }
 }
 
@@ -47,6 +110,14 @@ mod tests {
     fn counts_every_request_once() {
         let tally = Tally::of(1, 300, &[1, 2, 3, 4, 5, 6]);
         assert_eq!(tally.seen.iter().flatten().sum::<u64>(), 300);
-        assert_eq!(tally.to_string().lines().count(), 7);
+        let reached: u64 = tally.reached.values().map(|reached| reached.calls).sum();
+        let decoded: u64 = [1, 3, 5].iter().map(|&job| [0, 9, 10].iter().map(|&number: &usize| tally.seen[job][number]).sum::<u64>()).sum();
+        assert_eq!(reached, decoded);
+    }
+
+    #[test]
+    fn runs_of_numbers() {
+        assert_eq!(Runs(&BTreeSet::from([0, 1, 2, 5, 7, 8])).to_string(), "0..2, 5, 7..8");
+        assert_eq!(Runs(&BTreeSet::new()).to_string(), "");
     }
 }

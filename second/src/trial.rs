@@ -40,6 +40,17 @@ impl Request {
         }
     }
 
+    /// The code or mode it names.
+    pub fn code_or_mode(&self) -> u8 {
+        match self {
+            Request::Encode { code, .. } | Request::Decode { code, .. } => *code,
+            Request::SendA { mode, .. }
+            | Request::ReceiveA { mode, .. }
+            | Request::SendB { mode, .. }
+            | Request::ReceiveB { mode, .. } => *mode,
+        }
+    }
+
     /// Makes the call. The lent lists are left as the call leaves them.
     pub fn call(&mut self) -> Answer {
         match self {

@@ -1,8 +1,13 @@
--- Numbers in bytes, the lowest first, as the trial program's format has them. Assumes nothing.
+-- Numbers and levels in bytes, as the trial program's format has them.
+-- Assumes nothing.
 use Prim.Native.Nat.{ℕ, zero, suc, _+_, _*_, _/_, _%_}
-use mathlib.Core.List.{List, [], _∷_}
+use mathlib.Core.List.{List, [], _∷_, _++_}
+use lib.IntN.{ℤ}
+use lib.ListN.{take, drop}
+use mir.Syntax.{w16}
+use mir.Val.{toZ, ofZ}
 
--- the k lowest bytes of n
+-- the k lowest bytes of n, the lowest first
 unfoldable pub littleEndian : ℕ → ℕ → List ℕ
 littleEndian zero n = []
 littleEndian (suc k) n = n % 256 ∷ littleEndian k (n / 256)
@@ -11,3 +16,13 @@ littleEndian (suc k) n = n % 256 ∷ littleEndian k (n / 256)
 unfoldable pub value : List ℕ → ℕ
 value [] = 0
 value (b ∷ bs) = value bs * 256 + b
+
+-- levels in two bytes each, in two's complement
+unfoldable pub packed : List ℤ → List ℕ
+packed [] = []
+packed (x ∷ xs) = littleEndian 2 (ofZ w16 x) ++ packed xs
+
+-- the first n levels that bytes stand for
+unfoldable pub unpacked : ℕ → List ℕ → List ℤ
+unpacked zero bs = []
+unpacked (suc n) bs = toZ w16 (value (take 2 bs)) ∷ unpacked n (drop 2 bs)

@@ -1,8 +1,13 @@
-// Reading standard input: a byte, a list. A count or a list asks for all its bytes at once, and none is read ahead of the request.
+// Reading standard input: a byte, a list. A count, a list of bytes and a part of a list of levels ask for all their bytes at once, and none
+// is read ahead of the request.
 ghost use mathlib.Core.Path.{_≡_};
-ghost use Prim.Native.Nat.{_≤_};
+ghost use Prim.Native.Nat.{_*_, _^_, _≤_, _<_};
 ghost use lib.ListN.{length};
-ghost use Rattle.trial.specs.Format.{value};
+ghost use mir.Syntax.{w16};
+ghost use mir.Val.{toZ};
+ghost use Rattle.trial.specs.Format.{value, unpacked};
+use crate::parts;
+use crate::parts::PART;
 use libc::STDIN_FILENO;
 
 // A byte, or the end of the input.
@@ -38,6 +43,20 @@ pub fn read_list(room: &mut [u8]) -> Listed
     Listed { count: n, whole }
 }
 
+// A list of levels, into the first elements of room.
+pub fn read_levels(room: &mut [i16]) -> Listed
+    ensures { λ r. ⌜ r .count ≤ length (now (room .entry)) ⌝ }
+{
+    let head = read_count(room.len());
+    if !head.whole {
+        return head;
+    }
+    let n = head.count;
+    let mut bytes = [0u8; 2 * PART];
+    let whole = read_parts(&mut room[0..n], &mut bytes);
+    Listed { count: n, whole }
+}
+
 // The count of a list, of which there is room for most elements.
 fn read_count(most: usize) -> Listed
     ensures { λ r. ⌜ r .count ≤ most ⌝ }
@@ -57,10 +76,59 @@ fn read_count(most: usize) -> Listed
     }
 }
 
+// Levels, part by part, by way of bytes. False says that the input ended before.
+fn read_parts(levels: &mut [i16], bytes: &mut [u8]) -> bool
+    requires { ⌜ 1024 ≤ length (now bytes) ⌝ }
+{
+    let mut i: usize = 0;
+    while i < levels.len() {
+        let end = parts::end(i, levels.len());
+        if !read_part(&mut levels[i..end], bytes) {
+            return false;
+        }
+        i = end;
+    }
+    true
+}
+
+// One part: two bytes for each level.
+fn read_part(levels: &mut [i16], bytes: &mut [u8]) -> bool
+    requires { ⌜ length (now levels) * 2 ≤ length (now bytes) ⌝ }
+{
+    let end = levels.len() * 2;
+    let whole = io::read_full(STDIN_FILENO, &mut bytes[0..end]) == end;
+    unpack(bytes, levels);
+    whole
+}
+
+// The levels that the first bytes stand for.
+fn unpack(bytes: &[u8], levels: &mut [i16])
+    requires { ⌜ length (now levels) * 2 ≤ length (now bytes) ⌝ }
+    ensures { λ _. ⌜ now (levels .exit) ≡ unpacked (length (now (levels .entry))) (now (bytes .entry)) ⌝ }
+{
+    let mut i: usize = 0;
+    while i < levels.len() {
+        let at = i * 2;
+        levels[i] = level(value(&bytes[at..at + 2]));
+        i += 1;
+    }
+}
+
+// The level whose two's complement is n.
+fn level(n: usize) -> i16
+    requires { ⌜ n < 65536 ⌝ }
+    ensures { λ r. ⌜ r ≡ toZ w16 n ⌝ }
+{
+    if n < 32768 {
+        return n as i16;
+    }
+    -1 - ((65535 - n) as i16)
+}
+
 // The number that at most eight bytes stand for, the lowest first.
 fn value(bytes: &[u8]) -> usize
     requires { ⌜ length (now bytes) ≤ 8 ⌝ }
-    ensures { λ r. ⌜ r ≡ value (now (bytes .entry)) ⌝ }
+    ensures { λ r. ⌜ (r ≡ value (now (bytes .entry))) × (r < 256 ^ length (now (bytes .entry))) ⌝ }
 {
     let mut n: usize = 0;
     let mut i: usize = bytes.len();

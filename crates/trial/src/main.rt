@@ -1,25 +1,33 @@
 // The trial program: how anybody else's program can drive ours. It reads requests from standard input, makes the calls and writes the
 // responses to standard output, and has no rule of its own.
 //
-// Integers are little-endian. A list is a count of 4 bytes and its elements. A request is a job byte and the job's fields, with the lent
-// lists as they stand before the call. A response is the answer's number (1 byte), its place (8 bytes), the counts that the job has
-// (8 bytes each), and each lent list, whole, as it stands after the call.
+// Integers are little-endian. A list is a count of 4 bytes and its elements: a byte each, or two for each level of I and Q, in two's
+// complement. A request is a job byte and the job's fields, with the lent lists as they stand before the call. A response is the answer's
+// number (1 byte), its place (8 bytes), the counts that the job has (8 bytes each), and each lent list, whole, as it stands after the call.
 //
-//   job         fields                       counts     lent lists
-//   1 encode    code (1 byte), word, out                out
-//   2 decode    code (1 byte), word, out     mended     out
+//   job            fields                        counts               lent lists
+//   1 encode       code (1 byte), word, out                           out
+//   2 decode       code (1 byte), word, out      mended               out
+//   3 send A       mode (1 byte), frame, I, Q                         I, Q
+//   4 receive A    mode (1 byte), I, Q, area     mended, protected    area
 //
 // Another job byte, a list too long for its room and a request that is cut end the program after the responses so far.
 ghost use mathlib.Core.Path.{_≡_};
 ghost use lib.ListN.{length};
 use input::Byte;
 
+mod answer;
 mod input;
 mod output;
+mod parts;
+mod payload_a;
 mod word;
 
 // The most elements of a list of bytes.
 const MOST_BYTES: usize = 67300;
+
+// The most elements of a list of levels.
+const MOST_LEVELS: usize = 65600;
 
 // Room for a list of bytes.
 fn room() -> [u8; MOST_BYTES]
@@ -28,21 +36,30 @@ fn room() -> [u8; MOST_BYTES]
     [0; MOST_BYTES]
 }
 
+// Room for a list of levels.
+fn levels_room() -> [i16; MOST_LEVELS]
+    ensures { λ r. ⌜ 65600 ≡ length r ⌝ }
+{
+    [0; MOST_LEVELS]
+}
+
 // Reads a request and writes its response. False ends the program.
-fn serve(first: &mut [u8], second: &mut [u8]) -> bool {
+fn serve(first: &mut [u8], second: &mut [u8], i: &mut [i16], q: &mut [i16]) -> bool {
     let Byte::Of(job) = input::read_byte() else {
         return false;
     };
     match job {
         1 | 2 => word::serve(job, first, second),
+        3 => payload_a::serve_send(first, i, q),
+        4 => payload_a::serve_receive(i, q, first),
         _ => false,
     }
 }
 
 // A proved loop has to end, and nothing says that the input does: the turns count down from a number that no run uses up.
-fn serve_all(first: &mut [u8], second: &mut [u8]) {
+fn serve_all(first: &mut [u8], second: &mut [u8], i: &mut [i16], q: &mut [i16]) {
     let mut turns = u64::MAX;
-    while turns > 0 && serve(first, second) {
+    while turns > 0 && serve(first, second, i, q) {
         turns -= 1;
     }
 }
@@ -50,5 +67,7 @@ fn serve_all(first: &mut [u8], second: &mut [u8]) {
 fn main() {
     let mut first = room();
     let mut second = room();
-    serve_all(&mut first, &mut second);
+    let mut i = levels_room();
+    let mut q = levels_room();
+    serve_all(&mut first, &mut second, &mut i, &mut q);
 }

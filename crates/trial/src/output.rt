@@ -1,8 +1,13 @@
 // Writing to standard output: how a response begins, a count, a list. False says that it could not be written.
 ghost use mathlib.Core.Path.{_≡_};
 ghost use mathlib.Core.List.{_∷_};
+ghost use Prim.Native.Nat.{_*_, _≤_};
 ghost use lib.ListN.{length};
-ghost use Rattle.trial.specs.Format.{littleEndian};
+ghost use mir.Syntax.{w16};
+ghost use mir.Val.{ofZ};
+ghost use Rattle.trial.specs.Format.{littleEndian, packed};
+use crate::parts;
+use crate::parts::PART;
 use libc::STDOUT_FILENO;
 
 // How every response begins.
@@ -23,6 +28,12 @@ pub fn write_list(elements: &[u8]) -> bool {
     write_length(elements.len()) && io::write_all(STDOUT_FILENO, elements)
 }
 
+// A list of levels, whole.
+pub fn write_levels(levels: &[i16]) -> bool {
+    let mut bytes = [0u8; 2 * PART];
+    write_length(levels.len()) && write_parts(levels, &mut bytes)
+}
+
 // The count of a list, in four bytes.
 fn write_length(n: usize) -> bool {
     let mut bytes = [0u8; 4];
@@ -37,6 +48,53 @@ fn head(number: u8, place: usize) -> [u8; 9]
     let mut bytes = [number; 9];
     put(place, &mut bytes[1..9]);
     bytes
+}
+
+// Levels, part by part, by way of bytes.
+fn write_parts(levels: &[i16], bytes: &mut [u8]) -> bool
+    requires { ⌜ 1024 ≤ length (now bytes) ⌝ }
+{
+    let mut i: usize = 0;
+    while i < levels.len() {
+        let end = parts::end(i, levels.len());
+        if !write_part(&levels[i..end], bytes) {
+            return false;
+        }
+        i = end;
+    }
+    true
+}
+
+// One part: two bytes for each level.
+fn write_part(levels: &[i16], bytes: &mut [u8]) -> bool
+    requires { ⌜ length (now levels) * 2 ≤ length (now bytes) ⌝ }
+{
+    let end = levels.len() * 2;
+    pack(levels, &mut bytes[0..end]);
+    io::write_all(STDOUT_FILENO, &bytes[0..end])
+}
+
+// The bytes of levels.
+fn pack(levels: &[i16], bytes: &mut [u8])
+    requires { ⌜ length (now bytes) ≡ length (now levels) * 2 ⌝ }
+    ensures { λ _. ⌜ now (bytes .exit) ≡ packed (now (levels .entry)) ⌝ }
+{
+    let mut i: usize = 0;
+    while i < levels.len() {
+        let at = i * 2;
+        put(complement(levels[i]), &mut bytes[at..at + 2]);
+        i += 1;
+    }
+}
+
+// A level in two's complement: a number of 16 bits.
+fn complement(level: i16) -> usize
+    ensures { λ r. ⌜ r ≡ ofZ w16 level ⌝ }
+{
+    if level < 0 {
+        return 65535 - ((-1 - level) as usize);
+    }
+    level as usize
 }
 
 // The lowest bytes of n, as many as out has places, the lowest first.

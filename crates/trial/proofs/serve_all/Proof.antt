@@ -7,10 +7,11 @@ use Rattle.trial.proofs.serve_all.Statement.{statement}
 use Rattle.trial.proofs.serve_all.Tie as tie
 
 abbrev Inv-loop : tie.InvT-loop
-Inv-loop first₀ second₀ turns₀ first second turns = (length first ≡ length first₀) × (length second ≡ length second₀)
+Inv-loop first₀ second₀ i₀ q₀ turns₀ first second i q turns =
+    (length first ≡ length first₀) × (length second ≡ length second₀) × (length i ≡ length i₀) × (length q ≡ length q₀)
 
 abbrev μ-loop : tie.MeasureT-loop
-μ-loop first₀ second₀ turns₀ first second turns = turns
+μ-loop first₀ second₀ i₀ q₀ turns₀ first second i q turns = turns
 
 loop-holds : tie.Need-loop-holds Inv-loop μ-loop
 loop-holds c = search needs
@@ -33,14 +34,26 @@ same-length c = search needs
 same-length-2 : tie.Need-same-length-2 Inv-loop μ-loop
 same-length-2 c = search needs
 
-returns : tie.Need-returns Inv-loop μ-loop
-returns c = search needs
-
 same-length-3 : tie.Need-same-length-3 Inv-loop μ-loop
 same-length-3 c = search needs
 
 same-length-4 : tie.Need-same-length-4 Inv-loop μ-loop
 same-length-4 c = search needs
+
+returns : tie.Need-returns Inv-loop μ-loop
+returns c = search needs
+
+same-length-5 : tie.Need-same-length-5 Inv-loop μ-loop
+same-length-5 c = search needs
+
+same-length-6 : tie.Need-same-length-6 Inv-loop μ-loop
+same-length-6 c = search needs
+
+same-length-7 : tie.Need-same-length-7 Inv-loop μ-loop
+same-length-7 c = search needs
+
+same-length-8 : tie.Need-same-length-8 Inv-loop μ-loop
+same-length-8 c = search needs
 
 returns-2 : tie.Need-returns-2 Inv-loop μ-loop
 returns-2 c = search needs
@@ -58,7 +71,11 @@ serve-all-spec =
     loop-again
     same-length
     same-length-2
-    returns
     same-length-3
     same-length-4
+    returns
+    same-length-5
+    same-length-6
+    same-length-7
+    same-length-8
     returns-2)

@@ -4,7 +4,7 @@ use mathlib.Core.Path.{_≡_, ap, _∙_}
 use mathlib.Core.List.{List, _∷_}
 use Prim.Native.Nat.{ℕ, suc, _+_, _-_, _*_, _^_, _≤_, _<_}
 use native.Mathlib.Omega.{arith}
-use native.Mathlib.Nat.{pow-suc, pow-le-pow-right, sub-self}
+use native.Mathlib.Nat.{pow-suc, pow-le-pow-right, sub-self, sub-zero}
 use lib.Dec.{lit<}
 use lib.ListN.{length, getD, drop}
 use lib.Seq.{drop-cons, drop-length}
@@ -79,7 +79,7 @@ returns : tie.Need-returns Inv-loop μ-loop
 returns c =
     let l = c .before .loop in
     let e : l .i ≡ 0 = omega arith in
-    rw e at (l .inv .2)
+    (rw e at (l .inv .2), rw (e, sub-zero) at (l .inv .1))
 
 pub value-spec : {M : Type 1} → statement M
 value-spec =
