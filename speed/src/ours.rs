@@ -1,25 +1,74 @@
 //! The proved crates' calls, as crates/bridge exports them: a slice is a pointer and then a length.
 
-/// Document 01's number, 0 for success, its place, and the count of bits mended.
+use crate::rows::{Answer, Input, Memory};
+
+/// What ortkaveq_encode, ortkaveq_decode and ortkaveq_send_a answer.
 #[repr(C)]
-#[derive(Clone, Copy, Debug, PartialEq, Eq)]
-pub struct Answer {
-    pub number: u32,
-    pub mended: u32,
-    pub place: u64,
+struct Told {
+    number: u32,
+    mended: u32,
+    place: u64,
+}
+
+/// What ortkaveq_receive_a answers.
+#[repr(C)]
+struct ReceivedTold {
+    number: u32,
+    mended: u16,
+    protected: u16,
+    place: u64,
 }
 
 extern "C" {
-    fn ortkaveq_encode(code: u8, word: *const u8, length: usize, out: *mut u8, room: usize) -> Answer;
-    fn ortkaveq_decode(code: u8, word: *const u8, length: usize, out: *mut u8, room: usize) -> Answer;
+    fn ortkaveq_encode(code: u8, word: *const u8, length: usize, out: *mut u8, room: usize) -> Told;
+    fn ortkaveq_decode(code: u8, word: *const u8, length: usize, out: *mut u8, room: usize) -> Told;
+    fn ortkaveq_send_a(
+        mode: u8,
+        frame: *const u8,
+        length: usize,
+        i: *mut i16,
+        i_room: usize,
+        q: *mut i16,
+        q_room: usize,
+    ) -> Told;
+    fn ortkaveq_receive_a(
+        mode: u8,
+        i: *const i16,
+        i_length: usize,
+        q: *const i16,
+        q_length: usize,
+        area: *mut u8,
+        room: usize,
+    ) -> ReceivedTold;
 }
 
-pub fn encode(code: u8, word: &[u8], out: &mut [u8]) -> Answer {
-    // Both pairs are slices of this program, and `out` is lent to nobody else.
-    unsafe { ortkaveq_encode(code, word.as_ptr(), word.len(), out.as_mut_ptr(), out.len()) }
+// In every call below each pair is a slice of this program, and the memory is lent to nobody else.
+
+pub fn encode(input: &Input, memory: &mut Memory) -> Answer {
+    let (word, out) = (&input.bytes, &mut memory.bytes);
+    told(unsafe { ortkaveq_encode(input.number, word.as_ptr(), word.len(), out.as_mut_ptr(), out.len()) })
 }
 
-pub fn decode(code: u8, word: &[u8], out: &mut [u8]) -> Answer {
-    // As above.
-    unsafe { ortkaveq_decode(code, word.as_ptr(), word.len(), out.as_mut_ptr(), out.len()) }
+pub fn decode(input: &Input, memory: &mut Memory) -> Answer {
+    let (word, out) = (&input.bytes, &mut memory.bytes);
+    told(unsafe { ortkaveq_decode(input.number, word.as_ptr(), word.len(), out.as_mut_ptr(), out.len()) })
+}
+
+pub fn send_a(input: &Input, memory: &mut Memory) -> Answer {
+    let (frame, i, q) = (&input.bytes, &mut memory.i, &mut memory.q);
+    told(unsafe {
+        ortkaveq_send_a(input.number, frame.as_ptr(), frame.len(), i.as_mut_ptr(), i.len(), q.as_mut_ptr(), q.len())
+    })
+}
+
+pub fn receive_a(input: &Input, memory: &mut Memory) -> Answer {
+    let (i, q, area) = (&input.i, &input.q, &mut memory.bytes);
+    let r = unsafe {
+        ortkaveq_receive_a(input.number, i.as_ptr(), i.len(), q.as_ptr(), q.len(), area.as_mut_ptr(), area.len())
+    };
+    Answer { number: r.number, mended: r.mended.into(), protected: r.protected.into(), place: r.place }
+}
+
+fn told(r: Told) -> Answer {
+    Answer { number: r.number, mended: r.mended.into(), protected: 0, place: r.place }
 }

@@ -1,27 +1,82 @@
-//! The rows of the table: what is called, and on which words.
+//! The rows of the table: what is called, and on what.
 
-use second::bch;
+use crate::{ours, theirs};
 use second::rng::Rng;
+use second::{bch, dqpsk, grid, payload_a, scrambler};
 
-/// Words in each row, all of them different but for chance.
-pub const WORDS: usize = 2048;
+/// Words, frames or bursts in each row, all of them different but for chance.
+pub const INPUTS: usize = 2048;
+
+/// Elements of each lent list: more than any call writes, so that what lies beyond is compared too, and whole cache lines.
+const ROOM: usize = 576;
+
+/// What is passed: a code's or mode's number, and a word, a frame, or the points of a burst.
+#[derive(Default)]
+pub struct Input {
+    pub number: u8,
+    pub bytes: Vec<u8>,
+    pub i: Vec<i16>,
+    pub q: Vec<i16>,
+}
+
+/// What is lent: at the same place in its cache lines in every run.
+#[derive(PartialEq)]
+#[repr(C, align(64))]
+pub struct Memory {
+    pub bytes: [u8; ROOM],
+    pub i: [i16; ROOM],
+    pub q: [i16; ROOM],
+}
+
+impl Memory {
+    pub fn new() -> Memory {
+        Memory { bytes: [7; ROOM], i: [7; ROOM], q: [7; ROOM] }
+    }
+}
+
+/// Document 01's number, 0 for success, its place, and the counts, 0 where a call has none.
+#[derive(Debug, PartialEq)]
+pub struct Answer {
+    pub number: u32,
+    pub mended: u64,
+    pub protected: u64,
+    pub place: u64,
+}
+
+pub type Call = fn(&Input, &mut Memory) -> Answer;
 
 pub struct Row {
-    pub code: u8,
+    pub of: String,
     pub name: String,
-    pub encodes: bool,
-    pub words: Vec<Vec<u8>>,
+    pub ours: Call,
+    pub theirs: Call,
+    pub inputs: Vec<Input>,
+}
+
+/// A call of ours and of second's.
+type Calls = (Call, Call);
+
+const ENCODE: Calls = (ours::encode, theirs::encode);
+const DECODE: Calls = (ours::decode, theirs::decode);
+const SEND_A: Calls = (ours::send_a, theirs::send_a);
+const RECEIVE_A: Calls = (ours::receive_a, theirs::receive_a);
+
+/// All rows.
+pub fn all() -> impl Iterator<Item = Row> {
+    (1..=3).flat_map(of_code).chain(of_payload_a())
+}
+
+fn row(of: &str, name: &str, (ours, theirs): Calls, mut input: impl FnMut() -> Input) -> Row {
+    let inputs = (0..INPUTS).map(|_| input()).collect();
+    Row { of: of.to_string(), name: name.to_string(), ours, theirs, inputs }
 }
 
 /// All rows of one code.
-pub fn of_code(number: u8) -> Vec<Row> {
+fn of_code(number: u8) -> Vec<Row> {
     let code = bch::code(number).expect("codes are numbered 1 to 3");
     let mut rng = Rng::new(number.into());
-    let mut row = |name: &str, encodes: bool, word: &dyn Fn(&mut Rng) -> Vec<u8>| Row {
-        code: number,
-        name: name.to_string(),
-        encodes,
-        words: (0..WORDS).map(|_| word(&mut rng)).collect(),
+    let mut row = |name: &str, calls: Calls, word: &dyn Fn(&mut Rng) -> Vec<u8>| {
+        row(&format!("code {number}"), name, calls, || Input { number, bytes: word(&mut rng), ..Input::default() })
     };
     let hit = |count: usize| {
         move |rng: &mut Rng| {
@@ -31,11 +86,44 @@ pub fn of_code(number: u8) -> Vec<Row> {
         }
     };
     vec![
-        row("encode", true, &|rng| rng.bits(code.k)),
-        row("decode, clean", false, &hit(0)),
-        row("decode, 1 hit", false, &hit(1)),
-        row(&format!("decode, t = {} hits", code.t), false, &hit(code.t)),
-        row(&format!("decode, t + 2 = {} hits", code.t + 2), false, &hit(code.t + 2)),
-        row("decode, random words", false, &|rng| rng.bits(code.n)),
+        row("encode", ENCODE, &|rng| rng.bits(code.k)),
+        row("decode, clean", DECODE, &hit(0)),
+        row("decode, 1 hit", DECODE, &hit(1)),
+        row(&format!("decode, t = {} hits", code.t), DECODE, &hit(code.t)),
+        row(&format!("decode, t + 2 = {} hits", code.t + 2), DECODE, &hit(code.t + 2)),
+        row("decode, random words", DECODE, &|rng| rng.bits(code.n)),
     ]
+}
+
+/// All rows of Payload A.
+fn of_payload_a() -> Vec<Row> {
+    let mut rng = Rng::new(4);
+    let mut row = |mode: u8, name: &str, calls: Calls, input: &dyn Fn(&mut Rng, u8) -> Input| {
+        row(&format!("Payload A, mode {mode}"), name, calls, || input(&mut rng, mode))
+    };
+    vec![
+        row(1, "send", SEND_A, &frame),
+        row(1, "receive, clean", RECEIVE_A, &|rng, mode| burst(rng, mode, 0)),
+        row(1, "receive, 16 hits in each half", RECEIVE_A, &|rng, mode| burst(rng, mode, 16)),
+        row(0, "send", SEND_A, &frame),
+        row(0, "receive, clean", RECEIVE_A, &|rng, mode| burst(rng, mode, 0)),
+    ]
+}
+
+/// A frame of this mode.
+fn frame(rng: &mut Rng, mode: u8) -> Input {
+    let length = payload_a::frame_bytes(mode).expect("modes are 0 and 1");
+    Input { number: mode, bytes: rng.bytes(length), ..Input::default() }
+}
+
+/// The points of a frame, with so many of the 392 bits of each half flipped on the way.
+fn burst(rng: &mut Rng, mode: u8, hits: usize) -> Input {
+    let information = scrambler::scrambled(&payload_a::with_check(&frame(rng, mode).bytes));
+    let mut bits = payload_a::coded(mode, &information);
+    for half in bits.chunks_mut(392) {
+        rng.distinct(hits, half.len()).into_iter().for_each(|place| half[place] ^= 1);
+    }
+    let (mut i, mut q) = (vec![0; payload_a::POINTS], vec![0; payload_a::POINTS]);
+    grid::write(&dqpsk::points(&payload_a::with_fields(&bits)), &mut i, &mut q);
+    Input { number: mode, i, q, ..Input::default() }
 }

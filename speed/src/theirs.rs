@@ -1,19 +1,27 @@
 //! The second program's calls, answered in the same form as ours.
 
-use crate::ours::Answer;
-use second::{answer, bch};
+use crate::rows::{Answer, Input, Memory};
+use second::{answer, bch, payload_a};
 
-pub fn encode(code: u8, word: &[u8], out: &mut [u8]) -> Answer {
-    told(bch::encode(code, word, out))
+pub fn encode(input: &Input, memory: &mut Memory) -> Answer {
+    told(bch::encode(input.number, &input.bytes, &mut memory.bytes))
 }
 
-pub fn decode(code: u8, word: &[u8], out: &mut [u8]) -> Answer {
-    told(bch::decode(code, word, out))
+pub fn decode(input: &Input, memory: &mut Memory) -> Answer {
+    told(bch::decode(input.number, &input.bytes, &mut memory.bytes))
+}
+
+pub fn send_a(input: &Input, memory: &mut Memory) -> Answer {
+    told(payload_a::send(input.number, &input.bytes, &mut memory.i, &mut memory.q))
+}
+
+pub fn receive_a(input: &Input, memory: &mut Memory) -> Answer {
+    told(payload_a::receive(input.number, &input.i, &input.q, &mut memory.bytes))
 }
 
 fn told(answer: answer::Answer) -> Answer {
     match answer {
-        Ok(counts) => Answer { number: 0, mended: counts.mended as u32, place: 0 },
-        Err(refusal) => Answer { number: refusal.number().into(), mended: 0, place: refusal.place() },
+        Ok(counts) => Answer { number: 0, mended: counts.mended, protected: counts.protected, place: 0 },
+        Err(refusal) => Answer { number: refusal.number().into(), mended: 0, protected: 0, place: refusal.place() },
     }
 }

@@ -1,13 +1,19 @@
--- What an exported call promises: bch's promise, and the answer as a caller in C reads it.
+-- What an exported call promises: the promise of bch or of payload, and the answer as a caller in C reads it.
 -- Assumes nothing.
 use mathlib.Core.Path.{_≡_}
 use mathlib.Core.List.{List}
 use Prim.Native.Nat.{ℕ}
+use lib.IntN.{ℤ}
 use Rattle.bch.specs.declared.Encoded.{Encoded}
 use Rattle.bch.specs.declared.Decoded.{Decoded}
 use Rattle.bch.specs.Answers.{encodeNumber, encodePlace, decodeNumber, decodePlace, decodeMended}
 use Rattle.bch.specs.Promise.{Encoding, Decoding}
+use Rattle.payload.specs.declared.Sent.{Sent}
+use Rattle.payload.specs.declared.ReceivedA.{ReceivedA}
+use Rattle.payload.specs.Answers.{sentNumber, sentPlace, numberA, placeA, mendedA, protectedA}
+use Rattle.payload.specs.PromiseA.{SendingA, ReceivingA}
 use Rattle.bridge.specs.declared.Answer.{Answer}
+use Rattle.bridge.specs.declared.ReceivedAnswer.{ReceivedAnswer}
 
 -- encode has no count
 abbrev pub ofEncoded : Encoded → Answer
@@ -15,6 +21,13 @@ ofEncoded a = record { number = encodeNumber a; mended = 0; place = encodePlace 
 
 abbrev pub ofDecoded : Decoded → Answer
 ofDecoded a = record { number = decodeNumber a; mended = decodeMended a; place = decodePlace a }
+
+-- sending has no count
+abbrev pub ofSent : Sent → Answer
+ofSent a = record { number = sentNumber a; mended = 0; place = sentPlace a }
+
+abbrev pub ofReceived : ReceivedA → ReceivedAnswer
+ofReceived a = record { number = numberA a; mended = mendedA a; protected = protectedA a; place = placeA a }
 
 -- ortkaveq_encode(c, word, out): the answer, and `out` after
 pub record EncodeCall (c : ℕ) (word out : List ℕ) (r : Answer) (after : List ℕ) : Type 0 where
@@ -27,3 +40,15 @@ pub record DecodeCall (c : ℕ) (word out : List ℕ) (r : Answer) (after : List
   pub answer : Decoded
   pub promise : Decoding c word out answer after
   pub told : r ≡ ofDecoded answer
+
+-- ortkaveq_send_a(mode, frame, i, q): the answer, and `i` and `q` after
+pub record SendACall (mode : ℕ) (frame : List ℕ) (is qs : List ℤ) (r : Answer) (is' qs' : List ℤ) : Type 0 where
+  pub answer : Sent
+  pub promise : SendingA mode frame is qs answer is' qs'
+  pub told : r ≡ ofSent answer
+
+-- ortkaveq_receive_a(mode, i, q, area): the answer, and `area` after
+pub record ReceiveACall (mode : ℕ) (is qs : List ℤ) (area : List ℕ) (r : ReceivedAnswer) (after : List ℕ) : Type 0 where
+  pub answer : ReceivedA
+  pub promise : ReceivingA mode is qs area answer after
+  pub told : r ≡ ofReceived answer

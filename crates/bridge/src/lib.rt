@@ -1,17 +1,25 @@
 // The calls of the house as C functions, for programs in other languages to link. A slice is passed as a pointer and then a length:
 //
 //   struct Answer { uint32_t number, mended; uint64_t place; };
+//   struct ReceivedAnswer { uint32_t number; uint16_t mended, protected; uint64_t place; };
+//
 //   struct Answer ortkaveq_encode(uint8_t code, const uint8_t *word, size_t word_length, uint8_t *out, size_t out_length);
 //   struct Answer ortkaveq_decode(uint8_t code, const uint8_t *word, size_t word_length, uint8_t *out, size_t out_length);
+//   struct Answer ortkaveq_send_a(uint8_t mode, const uint8_t *frame, size_t frame_length,
+//                                 int16_t *i, size_t i_length, int16_t *q, size_t q_length);
+//   struct ReceivedAnswer ortkaveq_receive_a(uint8_t mode, const int16_t *i, size_t i_length, const int16_t *q, size_t q_length,
+//                                            uint8_t *area, size_t area_length);
 //
-// What a caller in C owes: each pointer leads to that many elements, word and out do not overlap, and nothing else touches them meanwhile.
+// What a caller in C owes: each pointer leads to that many elements, what is written overlaps nothing else that is passed, and nothing
+// else touches any of them meanwhile.
+//
+//   words       what encode and decode answered, as a caller in C reads it
+//   payload_a   what sending and receiving Payload A answered
 ghost use mathlib.Core.Path.{_≡_};
-ghost use Prim.Native.Nat.{_^_, _<_};
-ghost use Rattle.bch.specs.Answers.{numberOf, placeOf, decodeMended};
-ghost use Rattle.bridge.specs.Calls.{ofEncoded, ofDecoded, EncodeCall, DecodeCall};
-use bch::Decoded;
-use bch::Encoded;
-use bch::Refusal;
+ghost use Rattle.bridge.specs.Calls.{EncodeCall, DecodeCall, SendACall, ReceiveACall};
+
+mod payload_a;
+mod words;
 
 // Document 01's number, 0 for success, its place, and the count of bits mended, 0 where the call has none.
 #[repr(C)]
@@ -21,12 +29,21 @@ pub struct Answer {
     pub place: u64,
 }
 
+// The same of receiving Payload A, with the count of protected bits that differ. It is no larger, so that it too comes back in registers.
+#[repr(C)]
+pub struct ReceivedAnswer {
+    pub number: u32,
+    pub mended: u16,
+    pub protected: u16,
+    pub place: u64,
+}
+
 // Writes the n bits of the codeword for the k bits of word.
 #[no_mangle]
 pub extern "C" fn ortkaveq_encode(code: u8, word: &[u8], out: &mut [u8]) -> Answer
     ensures { λ r. ⌜ EncodeCall code (now (word .entry)) (now (out .entry)) r (now (out .exit)) ⌝ }
 {
-    of_encoded(bch::encode(code, word, out))
+    words::of_encoded(bch::encode(code, word, out))
 }
 
 // Writes the n bits of the codeword that differs from the n bits of word in at most t places, if there is one.
@@ -34,55 +51,31 @@ pub extern "C" fn ortkaveq_encode(code: u8, word: &[u8], out: &mut [u8]) -> Answ
 pub extern "C" fn ortkaveq_decode(code: u8, word: &[u8], out: &mut [u8]) -> Answer
     ensures { λ r. ⌜ DecodeCall code (now (word .entry)) (now (out .entry)) r (now (out .exit)) ⌝ }
 {
-    of_decoded(bch::decode(code, word, out))
+    words::of_decoded(bch::decode(code, word, out))
 }
 
-// What encode answered, as a caller in C reads it.
-fn of_encoded(a: Encoded) -> Answer
-    ensures { λ r. ⌜ r ≡ ofEncoded a ⌝ }
+// Sends a frame of Payload A: writes 512 elements of I and of Q.
+#[no_mangle]
+pub extern "C" fn ortkaveq_send_a(mode: u8, frame: &[u8], i: &mut [i16], q: &mut [i16]) -> Answer
+    ensures { λ r. ⌜ SendACall mode (now (frame .entry)) (now (i .entry)) (now (q .entry)) r (now (i .exit)) (now (q .exit)) ⌝ }
 {
-    match a {
-        Encoded::Accepted => accepted(0),
-        Encoded::Refused(why) => refused(why),
-    }
+    payload_a::of_sent(payload::send_a(mode, frame, i, q))
 }
 
-// What decode answered, as a caller in C reads it.
-fn of_decoded(a: Decoded) -> Answer
-    requires { ⌜ decodeMended a < 2 ^ 32 ⌝ }
-    ensures { λ r. ⌜ r ≡ ofDecoded a ⌝ }
+// Receives a frame of Payload A from 512 elements of I and of Q: writes its bytes to the first of the area.
+#[no_mangle]
+pub extern "C" fn ortkaveq_receive_a(
+    mode: u8,
+    i: &[i16],
+    q: &[i16],
+    area: &mut [u8],
+) -> ReceivedAnswer
+    ensures { λ r. ⌜ ReceiveACall mode (now (i .entry)) (now (q .entry)) (now (area .entry)) r (now (area .exit)) ⌝ }
 {
-    match a {
-        Decoded::Accepted(m) => accepted(m as u32),
-        Decoded::Refused(why) => refused(why),
-    }
+    payload_a::of_received(payload::receive_a(mode, i, q, area))
 }
 
-// Success, with this count.
-fn accepted(mended: u32) -> Answer
-    ensures { λ r. ⌜ r ≡ record { number = 0; mended = mended; place = 0 } ⌝ }
-{
-    Answer {
-        number: 0,
-        mended,
-        place: 0,
-    }
-}
-
-// The number and place of a reason.
-fn refused(why: Refusal) -> Answer
-    ensures { λ r. ⌜ r ≡ record { number = numberOf why; mended = 0; place = placeOf why } ⌝ }
-{
-    match why {
-        Refusal::UnknownCode => at(1, 0),
-        Refusal::WrongLength => at(2, 0),
-        Refusal::NoRoom => at(3, 0),
-        Refusal::NotABit(i) => at(4, i as u64),
-        Refusal::Uncorrectable => at(9, 0),
-    }
-}
-
-// A refusal.
+// A number and its place, with no count.
 fn at(number: u32, place: u64) -> Answer
     ensures { λ r. ⌜ r ≡ record { number = number; mended = 0; place = place } ⌝ }
 {

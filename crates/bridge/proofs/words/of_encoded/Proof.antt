@@ -1,8 +1,8 @@
--- `bridge::of_encoded` meets its contract: the answer's number and place.
+-- `bridge::words::of_encoded` meets its contract: the answer's number and place.
 -- Assumes nothing.
 use borrow.Author.Needs.{needs}
-use Rattle.bridge.proofs.of_encoded.Statement.{statement}
-use Rattle.bridge.proofs.of_encoded.Tie as tie
+use Rattle.bridge.proofs.words.of_encoded.Statement.{statement}
+use Rattle.bridge.proofs.words.of_encoded.Tie as tie
 
 enum-told : tie.Need-enum-told
 enum-told c = search needs

@@ -1,8 +1,8 @@
--- `bridge::refused` meets its contract: a reason's number and place.
+-- `bridge::words::refused` meets its contract: a reason's number and place.
 -- Assumes nothing.
 use borrow.Author.Needs.{needs}
-use Rattle.bridge.proofs.refused.Statement.{statement}
-use Rattle.bridge.proofs.refused.Tie as tie
+use Rattle.bridge.proofs.words.refused.Statement.{statement}
+use Rattle.bridge.proofs.words.refused.Tie as tie
 
 enum-told : tie.Need-enum-told
 enum-told c = search needs

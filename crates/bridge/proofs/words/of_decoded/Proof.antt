@@ -1,8 +1,8 @@
--- `bridge::of_decoded` meets its contract: the answer's number, place and count.
+-- `bridge::words::of_decoded` meets its contract: the answer's number, place and count.
 -- Assumes nothing.
 use borrow.Author.Needs.{needs}
-use Rattle.bridge.proofs.of_decoded.Statement.{statement}
-use Rattle.bridge.proofs.of_decoded.Tie as tie
+use Rattle.bridge.proofs.words.of_decoded.Statement.{statement}
+use Rattle.bridge.proofs.words.of_decoded.Tie as tie
 
 enum-known-a : tie.Need-enum-known-a
 enum-known-a c = search needs

@@ -1,0 +1,73 @@
+// What sending and receiving Payload A answered, as a caller in C reads it.
+ghost use mathlib.Core.Path.{_≡_};
+ghost use Prim.Native.Nat.{_^_, _<_};
+ghost use Rattle.payload.specs.Answers.{numberOf, placeOf, mendedA, protectedA};
+ghost use Rattle.bridge.specs.Calls.{ofSent, ofReceived};
+use crate::Answer;
+use crate::ReceivedAnswer;
+use crate::at;
+use payload::ReceivedA;
+use payload::Refusal;
+use payload::Sent;
+
+// What sending answered.
+pub(crate) fn of_sent(a: Sent) -> Answer
+    ensures { λ r. ⌜ r ≡ ofSent a ⌝ }
+{
+    match a {
+        Sent::Accepted => at(0, 0),
+        Sent::Refused(why) => refused(why),
+    }
+}
+
+// What receiving answered.
+pub(crate) fn of_received(a: ReceivedA) -> ReceivedAnswer
+    requires { ⌜ (mendedA a < 2 ^ 16) × (protectedA a < 2 ^ 16) ⌝ }
+    ensures { λ r. ⌜ r ≡ ofReceived a ⌝ }
+{
+    match a {
+        ReceivedA::Accepted { mended, protected } => counted(mended as u16, protected as u16),
+        ReceivedA::Refused(why) => uncounted(refused(why)),
+    }
+}
+
+// A frame received, with these counts.
+fn counted(mended: u16, protected: u16) -> ReceivedAnswer
+    ensures { λ r. ⌜ r ≡ record { number = 0; mended = mended; protected = protected; place = 0 } ⌝ }
+{
+    ReceivedAnswer {
+        number: 0,
+        mended,
+        protected,
+        place: 0,
+    }
+}
+
+// No frame received, for this reason.
+fn uncounted(a: Answer) -> ReceivedAnswer
+    ensures { λ r. ⌜ r ≡ record { number = a .number; mended = 0; protected = 0; place = a .place } ⌝ }
+{
+    ReceivedAnswer {
+        number: a.number,
+        mended: 0,
+        protected: 0,
+        place: a.place,
+    }
+}
+
+// The number and place of a reason.
+fn refused(why: Refusal) -> Answer
+    ensures { λ r. ⌜ r ≡ record { number = numberOf why; mended = 0; place = placeOf why } ⌝ }
+{
+    match why {
+        Refusal::UnknownMode => at(1, 0),
+        Refusal::WrongLength => at(2, 0),
+        Refusal::NoRoom => at(3, 0),
+        Refusal::BadScheme(i) => at(5, i as u64),
+        Refusal::TooManySymbols => at(6, 0),
+        Refusal::Filled(i) => at(7, i as u64),
+        Refusal::StrayPoint(i) => at(8, i as u64),
+        Refusal::Uncorrectable(i) => at(9, i as u64),
+        Refusal::WrongCheck => at(10, 0),
+    }
+}
