@@ -9,6 +9,7 @@ use crate::at;
 use payload::ReceivedA;
 use payload::Refusal;
 use payload::Sent;
+use payload::answers;
 
 // What sending answered.
 pub(crate) fn of_sent(a: Sent) -> Answer
@@ -59,15 +60,5 @@ fn uncounted(a: Answer) -> ReceivedAnswer
 fn refused(why: Refusal) -> Answer
     ensures { λ r. ⌜ r ≡ record { number = numberOf why; mended = 0; place = placeOf why } ⌝ }
 {
-    match why {
-        Refusal::UnknownMode => at(1, 0),
-        Refusal::WrongLength => at(2, 0),
-        Refusal::NoRoom => at(3, 0),
-        Refusal::BadScheme(i) => at(5, i as u64),
-        Refusal::TooManySymbols => at(6, 0),
-        Refusal::Filled(i) => at(7, i as u64),
-        Refusal::StrayPoint(i) => at(8, i as u64),
-        Refusal::Uncorrectable(i) => at(9, i as u64),
-        Refusal::WrongCheck => at(10, 0),
-    }
+    at(answers::number(why) as u32, answers::place(why) as u64)
 }

@@ -7,10 +7,12 @@
 //   grid        points on the 256 sub-carriers of an OFDM symbol, equation 4
 //   phases      DQPSK, clause 6.4.2
 //   send_a, receive_a    Payload A end to end
+//   answers     document 01's number and place for each refusal
 ghost use mathlib.Core.Path.{_≡_};
 ghost use Rattle.payload.specs.CodedA.{bytesA};
 ghost use Rattle.payload.specs.PromiseA.{room, SendingA, ReceivingA};
 
+pub mod answers;
 mod bits;
 mod check;
 mod grid;

@@ -1,16 +1,16 @@
 // Document 01's number, place and counts for each answer of payload.
 ghost use mathlib.Core.Path.{_≡_};
-ghost use Rattle.payload.specs.Answers.{numberOf, placeOf, sentNumber, sentPlace, numberA, placeA, mendedA, protectedA};
+ghost use Rattle.payload.specs.Answers.{sentNumber, sentPlace, numberA, placeA, mendedA, protectedA};
 use payload::ReceivedA;
-use payload::Refusal;
 use payload::Sent;
+use payload::answers;
 
 pub fn sent_number(answer: Sent) -> u8
     ensures { λ r. ⌜ r ≡ sentNumber answer ⌝ }
 {
     match answer {
         Sent::Accepted => 0,
-        Sent::Refused(refusal) => number(refusal),
+        Sent::Refused(refusal) => answers::number(refusal),
     }
 }
 
@@ -19,7 +19,7 @@ pub fn sent_place(answer: Sent) -> usize
 {
     match answer {
         Sent::Accepted => 0,
-        Sent::Refused(refusal) => place(refusal),
+        Sent::Refused(refusal) => answers::place(refusal),
     }
 }
 
@@ -31,7 +31,7 @@ pub fn number_a(answer: ReceivedA) -> u8
             mended: _,
             protected: _,
         } => 0,
-        ReceivedA::Refused(refusal) => number(refusal),
+        ReceivedA::Refused(refusal) => answers::number(refusal),
     }
 }
 
@@ -43,7 +43,7 @@ pub fn place_a(answer: ReceivedA) -> usize
             mended: _,
             protected: _,
         } => 0,
-        ReceivedA::Refused(refusal) => place(refusal),
+        ReceivedA::Refused(refusal) => answers::place(refusal),
     }
 }
 
@@ -68,37 +68,5 @@ pub fn protected_a(answer: ReceivedA) -> usize
             protected,
         } => protected,
         ReceivedA::Refused(_) => 0,
-    }
-}
-
-fn number(refusal: Refusal) -> u8
-    ensures { λ r. ⌜ r ≡ numberOf refusal ⌝ }
-{
-    match refusal {
-        Refusal::UnknownMode => 1,
-        Refusal::WrongLength => 2,
-        Refusal::NoRoom => 3,
-        Refusal::BadScheme(_) => 5,
-        Refusal::TooManySymbols => 6,
-        Refusal::Filled(_) => 7,
-        Refusal::StrayPoint(_) => 8,
-        Refusal::Uncorrectable(_) => 9,
-        Refusal::WrongCheck => 10,
-    }
-}
-
-fn place(refusal: Refusal) -> usize
-    ensures { λ r. ⌜ r ≡ placeOf refusal ⌝ }
-{
-    match refusal {
-        Refusal::UnknownMode => 0,
-        Refusal::WrongLength => 0,
-        Refusal::NoRoom => 0,
-        Refusal::BadScheme(index) => index,
-        Refusal::TooManySymbols => 0,
-        Refusal::Filled(index) => index,
-        Refusal::StrayPoint(index) => index,
-        Refusal::Uncorrectable(block) => block,
-        Refusal::WrongCheck => 0,
     }
 }
