@@ -5,7 +5,7 @@ use payload::ReceivedA;
 use payload::Sent;
 use payload::answers;
 
-pub fn sent_number(answer: Sent) -> u8
+pub(crate) fn sent_number(answer: Sent) -> u8
     ensures { λ r. ⌜ r ≡ sentNumber answer ⌝ }
 {
     match answer {
@@ -14,7 +14,7 @@ pub fn sent_number(answer: Sent) -> u8
     }
 }
 
-pub fn sent_place(answer: Sent) -> usize
+pub(crate) fn sent_place(answer: Sent) -> usize
     ensures { λ r. ⌜ r ≡ sentPlace answer ⌝ }
 {
     match answer {
@@ -23,7 +23,7 @@ pub fn sent_place(answer: Sent) -> usize
     }
 }
 
-pub fn number_a(answer: ReceivedA) -> u8
+pub(crate) fn number_a(answer: ReceivedA) -> u8
     ensures { λ r. ⌜ r ≡ numberA answer ⌝ }
 {
     match answer {
@@ -35,7 +35,7 @@ pub fn number_a(answer: ReceivedA) -> u8
     }
 }
 
-pub fn place_a(answer: ReceivedA) -> usize
+pub(crate) fn place_a(answer: ReceivedA) -> usize
     ensures { λ r. ⌜ r ≡ placeA answer ⌝ }
 {
     match answer {
@@ -47,7 +47,7 @@ pub fn place_a(answer: ReceivedA) -> usize
     }
 }
 
-pub fn mended_a(answer: ReceivedA) -> usize
+pub(crate) fn mended_a(answer: ReceivedA) -> usize
     ensures { λ r. ⌜ r ≡ mendedA answer ⌝ }
 {
     match answer {
@@ -59,7 +59,7 @@ pub fn mended_a(answer: ReceivedA) -> usize
     }
 }
 
-pub fn protected_a(answer: ReceivedA) -> usize
+pub(crate) fn protected_a(answer: ReceivedA) -> usize
     ensures { λ r. ⌜ r ≡ protectedA answer ⌝ }
 {
     match answer {

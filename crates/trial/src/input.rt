@@ -22,7 +22,7 @@ pub struct Listed {
     pub whole: bool,
 }
 
-pub fn read_byte() -> Byte {
+pub(crate) fn read_byte() -> Byte {
     let mut one = [0u8; 1];
     if io::read_full(STDIN_FILENO, &mut one) < 1 {
         return Byte::End;
@@ -31,7 +31,7 @@ pub fn read_byte() -> Byte {
 }
 
 // A list of bytes, into the first elements of room.
-pub fn read_list(room: &mut [u8]) -> Listed
+pub(crate) fn read_list(room: &mut [u8]) -> Listed
     ensures { λ r. ⌜ r .count ≤ length (now (room .entry)) ⌝ }
 {
     let head = read_count(room.len());
@@ -44,7 +44,7 @@ pub fn read_list(room: &mut [u8]) -> Listed
 }
 
 // A list of levels, into the first elements of room.
-pub fn read_levels(room: &mut [i16]) -> Listed
+pub(crate) fn read_levels(room: &mut [i16]) -> Listed
     ensures { λ r. ⌜ r .count ≤ length (now (room .entry)) ⌝ }
 {
     let head = read_count(room.len());

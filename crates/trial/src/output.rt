@@ -11,25 +11,25 @@ use crate::parts::PART;
 use libc::STDOUT_FILENO;
 
 // How every response begins.
-pub fn write_answer(number: u8, place: usize) -> bool {
+pub(crate) fn write_answer(number: u8, place: usize) -> bool {
     let bytes = head(number, place);
     io::write_all(STDOUT_FILENO, &bytes)
 }
 
 // A count that an answer carries, in eight bytes.
-pub fn write_count(n: usize) -> bool {
+pub(crate) fn write_count(n: usize) -> bool {
     let mut bytes = [0u8; 8];
     put(n, &mut bytes);
     io::write_all(STDOUT_FILENO, &bytes)
 }
 
 // A list of bytes, whole.
-pub fn write_list(elements: &[u8]) -> bool {
+pub(crate) fn write_list(elements: &[u8]) -> bool {
     write_length(elements.len()) && io::write_all(STDOUT_FILENO, elements)
 }
 
 // A list of levels, whole.
-pub fn write_levels(levels: &[i16]) -> bool {
+pub(crate) fn write_levels(levels: &[i16]) -> bool {
     let mut bytes = [0u8; 2 * PART];
     write_length(levels.len()) && write_parts(levels, &mut bytes)
 }

@@ -5,7 +5,7 @@ ghost use Prim.Native.Nat.{_+_, _≤_, _<_};
 pub const PART: usize = 512;
 
 // Where the part that begins at i ends, in a list of n.
-pub fn end(i: usize, n: usize) -> usize
+pub(crate) fn end(i: usize, n: usize) -> usize
     requires { ⌜ i < n ⌝ }
     ensures { λ r. ⌜ (i < r) × (r ≤ n) × (r ≤ i + 512) ⌝ }
 {

@@ -7,7 +7,7 @@ use payload::ReceivedA;
 use payload::Sent;
 
 // Reads the fields of job 3, mode, frame, I and Q, and makes the call. False ends the program.
-pub fn serve_send(frame: &mut [u8], i: &mut [i16], q: &mut [i16]) -> bool {
+pub(crate) fn serve_send(frame: &mut [u8], i: &mut [i16], q: &mut [i16]) -> bool {
     let Byte::Of(mode) = input::read_byte() else {
         return false;
     };
@@ -30,7 +30,7 @@ pub fn serve_send(frame: &mut [u8], i: &mut [i16], q: &mut [i16]) -> bool {
 }
 
 // Reads the fields of job 4, mode, I, Q and area, and makes the call. False ends the program.
-pub fn serve_receive(i: &mut [i16], q: &mut [i16], area: &mut [u8]) -> bool {
+pub(crate) fn serve_receive(i: &mut [i16], q: &mut [i16], area: &mut [u8]) -> bool {
     let Byte::Of(mode) = input::read_byte() else {
         return false;
     };

@@ -9,7 +9,7 @@ use bch::Encoded;
 use bch::Refusal;
 
 // Reads the fields of both jobs, code, word and out, and makes the call. False ends the program.
-pub fn serve(job: u8, word: &mut [u8], out: &mut [u8]) -> bool {
+pub(crate) fn serve(job: u8, word: &mut [u8], out: &mut [u8]) -> bool {
     let Byte::Of(code) = input::read_byte() else {
         return false;
     };
