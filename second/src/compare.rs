@@ -19,27 +19,71 @@ const SHOWN: u64 = 10;
 
 /// Compares the first `count` requests; writes differences, a tally and `N passed, M failed`. True if none failed.
 pub fn compare(seed: u64, count: u64, jobs: &[u8], command: &[String], to: &mut impl Write) -> io::Result<bool> {
-    let (mut failed, mut tally) = (0, Tally::default());
+    let mut told = Told::default();
     for first in (0..count).step_by(BATCH as usize) {
         let last = count.min(first + BATCH);
         let requests: Vec<Request> = (first..last).map(|index| hostile::request(seed, index, jobs)).collect();
+        told.batch(
+            &format!("seed {seed}"),
+            first,
+            &requests,
+            &ending(&mut Rng::of_request(!seed, first)),
+            command,
+            to,
+        )?;
+    }
+    told.end(to)
+}
+
+/// The same for requests that are given, in one process.
+pub fn compare_all(requests: &[Request], command: &[String], to: &mut impl Write) -> io::Result<bool> {
+    let mut told = Told::default();
+    told.batch("those given", 0, requests, &[], command, to)?;
+    told.end(to)
+}
+
+/// What has been compared so far.
+#[derive(Default)]
+struct Told {
+    count: u64,
+    failed: u64,
+    tally: Tally,
+}
+
+impl Told {
+    /// One process: requests of a name, numbered from the first, and what ends them.
+    fn batch(
+        &mut self,
+        name: &str,
+        first: u64,
+        requests: &[Request],
+        ending: &[u8],
+        command: &[String],
+        to: &mut impl Write,
+    ) -> io::Result<()> {
         let mut input: Vec<u8> = requests.iter().flat_map(Request::to_bytes).collect();
-        input.extend(ending(&mut Rng::of_request(!seed, first)));
+        input.extend(ending);
         // The other program works while we do.
+        let tally = &mut self.tally;
         let (expected, got) = thread::scope(|scope| {
             let other = scope.spawn(|| run(command, &input));
-            let expected: Vec<Vec<u8>> = requests.iter().map(|request| answered(request.clone(), &mut tally)).collect();
+            let expected: Vec<Vec<u8>> = requests.iter().map(|request| answered(request.clone(), tally)).collect();
             (expected, other.join().expect("no panic"))
         });
-        for (number, text) in differences(&requests, &expected, &got) {
-            failed += 1;
-            if failed <= SHOWN {
-                writeln!(to, "request {} of seed {seed}: {text}", first + number as u64)?;
+        self.count += requests.len() as u64;
+        for (number, text) in differences(requests, &expected, &got) {
+            self.failed += 1;
+            if self.failed <= SHOWN {
+                writeln!(to, "request {} of {name}: {text}", first + number as u64)?;
             }
         }
+        Ok(())
     }
-    writeln!(to, "{tally}\n{} passed, {failed} failed", count - failed)?;
-    Ok(failed == 0)
+
+    fn end(self, to: &mut impl Write) -> io::Result<bool> {
+        writeln!(to, "{}\n{} passed, {} failed", self.tally, self.count - self.failed, self.failed)?;
+        Ok(self.failed == 0)
+    }
 }
 
 /// The requests of a batch that were not answered as expected: their numbers, and what is different.

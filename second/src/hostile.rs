@@ -74,7 +74,7 @@ fn bytes_of_a_frame(rng: &mut Rng, length: usize) -> Vec<u8> {
 }
 
 /// Flips `count` different bits.
-fn flip(rng: &mut Rng, bits: &mut [u8], count: usize) {
+pub fn flip(rng: &mut Rng, bits: &mut [u8], count: usize) {
     for place in rng.distinct(count, bits.len()) {
         bits[place] ^= 1;
     }

@@ -13,6 +13,7 @@
 //! | `payload_a`, `payload_b` | the two payloads, both directions |
 //! | `trial` | the request and response format of the trial program |
 //! | `rng`, `hostile` | requests from a seed, most of them meant to break something |
+//! | `largest` | the largest frames of Payload B, and one byte or block more |
 //! | `compare`, `tally`, `numbers` | driving another program; counting refusals; document 01's numbers |
 
 pub mod answer;
@@ -24,6 +25,7 @@ pub mod dqpsk;
 pub mod field;
 pub mod grid;
 pub mod hostile;
+pub mod largest;
 pub mod logs;
 pub mod numbers;
 pub mod payload_a;

@@ -2,7 +2,7 @@
 
 use second::points::constellation;
 use second::tally::Tally;
-use second::{compare, field, hostile, numbers, trial};
+use second::{compare, field, hostile, largest, numbers, trial};
 use std::io::{self, BufWriter, Write};
 use std::process::ExitCode;
 
@@ -10,6 +10,7 @@ const USAGE: &str = "\
 second requests SEED COUNT [JOBS]               writes requests for a trial program
 second responses < REQUESTS                     writes the responses that are expected
 second compare SEED COUNT [JOBS] -- COMMAND..   drives a trial program, prints differences and 'N passed, M failed'
+second largest SEED -- COMMAND..                drives a trial program with the largest frames of Payload B, and one byte or block more
 second one SEED INDEX [JOBS]                    writes the single request of this index
 second tally SEED COUNT [JOBS]                  counts the refusal numbers of each job, their places, and what came as far as the decoder
 second numbers                                  checks document 01's numbers
@@ -51,12 +52,12 @@ fn run(args: &[String]) -> io::Result<bool> {
             true
         }
         ["compare", seed, count, ref rest @ ..] => {
-            let dashes = rest.iter().position(|&word| word == "--").ok_or_else(|| usage("no -- and command"))?;
-            let command: Vec<String> = rest[dashes + 1..].iter().map(|word| word.to_string()).collect();
-            if command.is_empty() {
-                return Err(usage("no command"));
-            }
-            compare::compare(number(seed)?, number(count)?, &jobs_of(&rest[..dashes])?, &command, &mut out)?
+            let (jobs, command) = command_of(rest)?;
+            compare::compare(number(seed)?, number(count)?, &jobs_of(jobs)?, &command, &mut out)?
+        }
+        ["largest", seed, ref rest @ ..] => {
+            let (_, command) = command_of(rest)?;
+            compare::compare_all(&largest::requests(number(seed)?), &command, &mut out)?
         }
         ["tally", seed, count, ref jobs @ ..] => {
             writeln!(out, "{}", Tally::of(number(seed)?, number(count)?, &jobs_of(jobs)?))?;
@@ -75,6 +76,16 @@ fn run(args: &[String]) -> io::Result<bool> {
     };
     out.flush()?;
     Ok(good)
+}
+
+/// The words before --, and the command after it.
+fn command_of<'a, 'b>(words: &'a [&'b str]) -> io::Result<(&'a [&'b str], Vec<String>)> {
+    let dashes = words.iter().position(|&word| word == "--").ok_or_else(|| usage("no -- and command"))?;
+    let command: Vec<String> = words[dashes + 1..].iter().map(|word| word.to_string()).collect();
+    if command.is_empty() {
+        return Err(usage("no command"));
+    }
+    Ok((&words[..dashes], command))
 }
 
 fn usage(why: &str) -> io::Error {

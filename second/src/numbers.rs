@@ -3,6 +3,7 @@
 use crate::answer::{Answer, Counts, Refusal};
 use crate::bch::{self, Code};
 use crate::grid::{carriers, CARRIERS};
+use crate::largest::{BLOCK_BYTES, LARGEST};
 use crate::points::{constellation, Point};
 use crate::rng::Rng;
 use crate::{bits, check, field, grid, payload_a, payload_b, poly, scrambler};
@@ -178,9 +179,9 @@ fn symbols() -> Vec<Line> {
 fn largest() -> Vec<Line> {
     let mut rng = Rng::new(256);
     let mut lines = Vec::new();
-    for (name, bits, lengths) in [("QPSK", 2, [13_440, 12_449, 11_502]), ("1024QAM", 10, [67_200, 62_422, 57_564])] {
+    for (name, bits, lengths) in LARGEST {
         for (mode, length) in (0..).zip(lengths) {
-            let block = [1, 59, 54][mode as usize];
+            let block = BLOCK_BYTES[mode as usize];
             let frame = rng.bytes(length + block);
             let (mut i, mut q) = (vec![9; 256 * CARRIERS], vec![9; 256 * CARRIERS]);
             let sent = payload_b::send(mode, &frame[..length], &[bits; 210], &mut i, &mut q);

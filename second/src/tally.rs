@@ -73,7 +73,12 @@ impl fmt::Display for Tally {
         for ((job, choice), reached) in &self.reached {
             let name = JOBS[*job as usize - 1];
             let what = if *job == 2 { "code" } else { "mode" };
-            write!(f, "\n{name}, {what} {choice}: {} came as far as the decoder; mended {}", reached.calls, Runs(&reached.mended))?;
+            write!(
+                f,
+                "\n{name}, {what} {choice}: {} came as far as the decoder; mended {}",
+                reached.calls,
+                Runs(&reached.mended)
+            )?;
             if *job == 4 {
                 write!(f, "; protected {}", Runs(&reached.protected))?;
             }
@@ -111,7 +116,10 @@ mod tests {
         let tally = Tally::of(1, 300, &[1, 2, 3, 4, 5, 6]);
         assert_eq!(tally.seen.iter().flatten().sum::<u64>(), 300);
         let reached: u64 = tally.reached.values().map(|reached| reached.calls).sum();
-        let decoded: u64 = [1, 3, 5].iter().map(|&job| [0, 9, 10].iter().map(|&number: &usize| tally.seen[job][number]).sum::<u64>()).sum();
+        let decoded: u64 = [1, 3, 5]
+            .iter()
+            .map(|&job| [0, 9, 10].iter().map(|&number: &usize| tally.seen[job][number]).sum::<u64>())
+            .sum();
         assert_eq!(reached, decoded);
     }
 

@@ -2,7 +2,7 @@
 
 use crate::rows::{Answer, Input, Memory};
 
-/// What ortkaveq_encode, ortkaveq_decode and ortkaveq_send_a answer.
+/// What every call but ortkaveq_receive_a answers.
 #[repr(C)]
 struct Told {
     number: u32,
@@ -40,6 +40,29 @@ extern "C" {
         area: *mut u8,
         room: usize,
     ) -> ReceivedTold;
+    fn ortkaveq_send_b(
+        mode: u8,
+        frame: *const u8,
+        length: usize,
+        scheme: *const u8,
+        entries: usize,
+        i: *mut i16,
+        i_room: usize,
+        q: *mut i16,
+        q_room: usize,
+    ) -> Told;
+    fn ortkaveq_receive_b(
+        mode: u8,
+        size: usize,
+        scheme: *const u8,
+        entries: usize,
+        i: *const i16,
+        i_length: usize,
+        q: *const i16,
+        q_length: usize,
+        area: *mut u8,
+        room: usize,
+    ) -> Told;
 }
 
 // In every call below each pair is a slice of this program, and the memory is lent to nobody else.
@@ -67,6 +90,41 @@ pub fn receive_a(input: &Input, memory: &mut Memory) -> Answer {
         ortkaveq_receive_a(input.number, i.as_ptr(), i.len(), q.as_ptr(), q.len(), area.as_mut_ptr(), area.len())
     };
     Answer { number: r.number, mended: r.mended.into(), protected: r.protected.into(), place: r.place }
+}
+
+pub fn send_b(input: &Input, memory: &mut Memory) -> Answer {
+    let (frame, scheme, i, q) = (&input.bytes, &input.scheme, &mut memory.i, &mut memory.q);
+    told(unsafe {
+        ortkaveq_send_b(
+            input.number,
+            frame.as_ptr(),
+            frame.len(),
+            scheme.as_ptr(),
+            scheme.len(),
+            i.as_mut_ptr(),
+            i.len(),
+            q.as_mut_ptr(),
+            q.len(),
+        )
+    })
+}
+
+pub fn receive_b(input: &Input, memory: &mut Memory) -> Answer {
+    let (scheme, i, q, area) = (&input.scheme, &input.i, &input.q, &mut memory.bytes);
+    told(unsafe {
+        ortkaveq_receive_b(
+            input.number,
+            input.size,
+            scheme.as_ptr(),
+            scheme.len(),
+            i.as_ptr(),
+            i.len(),
+            q.as_ptr(),
+            q.len(),
+            area.as_mut_ptr(),
+            area.len(),
+        )
+    })
 }
 
 fn told(r: Told) -> Answer {

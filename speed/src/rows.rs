@@ -1,4 +1,4 @@
-//! The rows of the table: what is called, and on what.
+//! The rows of the tables: what is called, and on what. Here those of the codes and of Payload A.
 
 use crate::{ours, theirs};
 use second::rng::Rng;
@@ -7,14 +7,22 @@ use second::{bch, dqpsk, grid, payload_a, scrambler};
 /// Words, frames or bursts in each row, all of them different but for chance.
 pub const INPUTS: usize = 2048;
 
-/// Elements of each lent list: more than any call writes, so that what lies beyond is compared too, and whole cache lines.
-const ROOM: usize = 576;
+/// Calls that are timed together.
+pub const GROUP: usize = 32;
 
-/// What is passed: a code's or mode's number, and a word, a frame, or the points of a burst.
+/// Elements of the lent lists: more than any call writes, so that what lies beyond is compared too, and whole cache
+/// lines.
+const BYTES: usize = 67_200 + 64;
+const POINTS: usize = 256 * 256 + 64;
+
+/// What is passed: a code's or mode's number, and a word, a frame, or the points of a frame; for Payload B a scheme too,
+/// and for receiving it the frame's size in bytes.
 #[derive(Default)]
 pub struct Input {
     pub number: u8,
     pub bytes: Vec<u8>,
+    pub size: usize,
+    pub scheme: Vec<u8>,
     pub i: Vec<i16>,
     pub q: Vec<i16>,
 }
@@ -23,14 +31,14 @@ pub struct Input {
 #[derive(PartialEq)]
 #[repr(C, align(64))]
 pub struct Memory {
-    pub bytes: [u8; ROOM],
-    pub i: [i16; ROOM],
-    pub q: [i16; ROOM],
+    pub bytes: [u8; BYTES],
+    pub i: [i16; POINTS],
+    pub q: [i16; POINTS],
 }
 
 impl Memory {
-    pub fn new() -> Memory {
-        Memory { bytes: [7; ROOM], i: [7; ROOM], q: [7; ROOM] }
+    pub fn new() -> Box<Memory> {
+        Box::new(Memory { bytes: [7; BYTES], i: [7; POINTS], q: [7; POINTS] })
     }
 }
 
@@ -51,24 +59,28 @@ pub struct Row {
     pub ours: Call,
     pub theirs: Call,
     pub inputs: Vec<Input>,
+    /// Calls that are timed together.
+    pub group: usize,
+    /// What every call must answer, where the row says so.
+    pub told: Option<Answer>,
 }
 
 /// A call of ours and of second's.
-type Calls = (Call, Call);
+pub type Calls = (Call, Call);
 
 const ENCODE: Calls = (ours::encode, theirs::encode);
 const DECODE: Calls = (ours::decode, theirs::decode);
 const SEND_A: Calls = (ours::send_a, theirs::send_a);
 const RECEIVE_A: Calls = (ours::receive_a, theirs::receive_a);
 
-/// All rows.
+/// All rows of the codes and of Payload A.
 pub fn all() -> impl Iterator<Item = Row> {
     (1..=3).flat_map(of_code).chain(of_payload_a())
 }
 
 fn row(of: &str, name: &str, (ours, theirs): Calls, mut input: impl FnMut() -> Input) -> Row {
     let inputs = (0..INPUTS).map(|_| input()).collect();
-    Row { of: of.to_string(), name: name.to_string(), ours, theirs, inputs }
+    Row { of: of.to_string(), name: name.to_string(), ours, theirs, inputs, group: GROUP, told: None }
 }
 
 /// All rows of one code.

@@ -1,7 +1,7 @@
 //! The second program's calls, answered in the same form as ours.
 
 use crate::rows::{Answer, Input, Memory};
-use second::{answer, bch, payload_a};
+use second::{answer, bch, payload_a, payload_b};
 
 pub fn encode(input: &Input, memory: &mut Memory) -> Answer {
     told(bch::encode(input.number, &input.bytes, &mut memory.bytes))
@@ -17,6 +17,15 @@ pub fn send_a(input: &Input, memory: &mut Memory) -> Answer {
 
 pub fn receive_a(input: &Input, memory: &mut Memory) -> Answer {
     told(payload_a::receive(input.number, &input.i, &input.q, &mut memory.bytes))
+}
+
+pub fn send_b(input: &Input, memory: &mut Memory) -> Answer {
+    told(payload_b::send(input.number, &input.bytes, &input.scheme, &mut memory.i, &mut memory.q))
+}
+
+pub fn receive_b(input: &Input, memory: &mut Memory) -> Answer {
+    let size = input.size as u64;
+    told(payload_b::receive(input.number, size, &input.scheme, &input.i, &input.q, &mut memory.bytes))
 }
 
 fn told(answer: answer::Answer) -> Answer {

@@ -13,11 +13,13 @@
 //   syndrome   the values of what is left at a, a^2, .., a^2t
 //   locator    the shortest recurrence of the syndromes, by Berlekamp and Massey, without inverses
 //   search     the places of the shortened word at which the locator vanishes, flipped in a copy
+//   answers    document 01's number and place for each refusal
 //
 // The copy is answered only if it is a codeword, by the remainder again, and differs in at most t places. What the algebra shows is that
 // no word within t of a codeword is missed.
 ghost use Rattle.bch.specs.Promise.{Encoding, Decoding};
 
+pub mod answers;
 mod code;
 mod decoder;
 mod encoder;

@@ -1,12 +1,14 @@
--- Each exported call has one answer and one memory, for every code or mode number, word, frame, grid and lent list.
+-- Each exported call has one answer and one memory, for every code or mode number, word, frame, scheme, grid and lent list.
 -- Assumes nothing.
 use mathlib.Core.Path.{_≡_, sym, ap, _∙_}
 use mathlib.Core.List.{List}
 use Prim.Native.Nat.{ℕ}
 use lib.IntN.{ℤ}
 use Rattle.bch.proofs.Once.{encode-once, decode-once}
-use Rattle.payload.proofs.OnceA.{send-a-once, receive-a-once}
-use Rattle.bridge.specs.Calls.{ofEncoded, ofDecoded, ofSent, ofReceived, EncodeCall, DecodeCall, SendACall, ReceiveACall}
+use Rattle.payload_a.proofs.OnceA.{send-a-once, receive-a-once}
+use Rattle.payload_b.proofs.OnceB.{send-b-once, receive-b-once}
+use Rattle.bridge.specs.Calls.{ofEncoded, ofDecoded, ofSent, ofReceivedA, ofReceivedB}
+use Rattle.bridge.specs.Calls.{EncodeCall, DecodeCall, SendACall, ReceiveACall, SendBCall, ReceiveBCall}
 use Rattle.bridge.specs.declared.Answer.{Answer}
 use Rattle.bridge.specs.declared.ReceivedAnswer.{ReceivedAnswer}
 
@@ -31,4 +33,16 @@ module _ {mode : ℕ} {is qs : List ℤ} {area : List ℕ} {r s : ReceivedAnswer
   pub receive-a-call-once : ReceiveACall mode is qs area r u → ReceiveACall mode is qs area s v → (r ≡ s) × (u ≡ v)
   receive-a-call-once p q =
       let same = receive-a-once area (p .answer) (q .answer) u v mode is qs (p .promise) (q .promise) in
-      (p .told ∙ ap ofReceived (same .0) ∙ sym (q .told), same .1)
+      (p .told ∙ ap ofReceivedA (same .0) ∙ sym (q .told), same .1)
+
+module _ {mode : ℕ} {frame scheme : List ℕ} {is qs : List ℤ} {r s : Answer} {is1 qs1 is2 qs2 : List ℤ} where
+  pub send-b-call-once : SendBCall mode frame scheme is qs r is1 qs1 → SendBCall mode frame scheme is qs s is2 qs2 → (r ≡ s) × (is1 ≡ is2) × (qs1 ≡ qs2)
+  send-b-call-once p q =
+      let same = send-b-once mode frame scheme is qs (p .answer) (q .answer) is1 qs1 is2 qs2 (p .promise) (q .promise) in
+      (p .told ∙ ap ofSent (same .0) ∙ sym (q .told), same .1, same .2)
+
+module _ {mode size : ℕ} {scheme : List ℕ} {is qs : List ℤ} {area : List ℕ} {r s : Answer} {u v : List ℕ} where
+  pub receive-b-call-once : ReceiveBCall mode size scheme is qs area r u → ReceiveBCall mode size scheme is qs area s v → (r ≡ s) × (u ≡ v)
+  receive-b-call-once p q =
+      let same = receive-b-once area (p .answer) (q .answer) u v mode size scheme is qs (p .promise) (q .promise) in
+      (p .told ∙ ap ofReceivedB (same .0) ∙ sym (q .told), same .1)

@@ -9,9 +9,13 @@ use Rattle.bch.specs.declared.Decoded.{Decoded}
 use Rattle.bch.specs.Answers.{encodeNumber, encodePlace, decodeNumber, decodePlace, decodeMended}
 use Rattle.bch.specs.Promise.{Encoding, Decoding}
 use Rattle.payload.specs.declared.Sent.{Sent}
-use Rattle.payload.specs.declared.ReceivedA.{ReceivedA}
-use Rattle.payload.specs.Answers.{sentNumber, sentPlace, numberA, placeA, mendedA, protectedA}
-use Rattle.payload.specs.PromiseA.{SendingA, ReceivingA}
+use Rattle.payload_a.specs.declared.ReceivedA.{ReceivedA}
+use Rattle.payload_b.specs.declared.ReceivedB.{ReceivedB}
+use Rattle.payload.specs.Answers.{sentNumber, sentPlace}
+use Rattle.payload_a.specs.AnswersA.{numberA, placeA, mendedA, protectedA}
+use Rattle.payload_b.specs.AnswersB.{numberB, placeB, mendedB}
+use Rattle.payload_a.specs.PromiseA.{SendingA, ReceivingA}
+use Rattle.payload_b.specs.PromiseB.{SendingB, ReceivingB}
 use Rattle.bridge.specs.declared.Answer.{Answer}
 use Rattle.bridge.specs.declared.ReceivedAnswer.{ReceivedAnswer}
 
@@ -26,8 +30,11 @@ ofDecoded a = record { number = decodeNumber a; mended = decodeMended a; place =
 abbrev pub ofSent : Sent → Answer
 ofSent a = record { number = sentNumber a; mended = 0; place = sentPlace a }
 
-abbrev pub ofReceived : ReceivedA → ReceivedAnswer
-ofReceived a = record { number = numberA a; mended = mendedA a; protected = protectedA a; place = placeA a }
+abbrev pub ofReceivedA : ReceivedA → ReceivedAnswer
+ofReceivedA a = record { number = numberA a; mended = mendedA a; protected = protectedA a; place = placeA a }
+
+abbrev pub ofReceivedB : ReceivedB → Answer
+ofReceivedB a = record { number = numberB a; mended = mendedB a; place = placeB a }
 
 -- ortkaveq_encode(c, word, out): the answer, and `out` after
 pub record EncodeCall (c : ℕ) (word out : List ℕ) (r : Answer) (after : List ℕ) : Type 0 where
@@ -51,4 +58,16 @@ pub record SendACall (mode : ℕ) (frame : List ℕ) (is qs : List ℤ) (r : Ans
 pub record ReceiveACall (mode : ℕ) (is qs : List ℤ) (area : List ℕ) (r : ReceivedAnswer) (after : List ℕ) : Type 0 where
   pub answer : ReceivedA
   pub promise : ReceivingA mode is qs area answer after
-  pub told : r ≡ ofReceived answer
+  pub told : r ≡ ofReceivedA answer
+
+-- ortkaveq_send_b(mode, frame, scheme, i, q): the answer, and `i` and `q` after
+pub record SendBCall (mode : ℕ) (frame scheme : List ℕ) (is qs : List ℤ) (r : Answer) (is' qs' : List ℤ) : Type 0 where
+  pub answer : Sent
+  pub promise : SendingB mode frame scheme is qs answer is' qs'
+  pub told : r ≡ ofSent answer
+
+-- ortkaveq_receive_b(mode, size, scheme, i, q, area): the answer, and `area` after
+pub record ReceiveBCall (mode size : ℕ) (scheme : List ℕ) (is qs : List ℤ) (area : List ℕ) (r : Answer) (after : List ℕ) : Type 0 where
+  pub answer : ReceivedB
+  pub promise : ReceivingB mode size scheme is qs area answer after
+  pub told : r ≡ ofReceivedB answer

@@ -9,16 +9,20 @@
 //                                 int16_t *i, size_t i_length, int16_t *q, size_t q_length);
 //   struct ReceivedAnswer ortkaveq_receive_a(uint8_t mode, const int16_t *i, size_t i_length, const int16_t *q, size_t q_length,
 //                                            uint8_t *area, size_t area_length);
+//   struct Answer ortkaveq_send_b(uint8_t mode, const uint8_t *frame, size_t frame_length, const uint8_t *scheme, size_t scheme_length,
+//                                 int16_t *i, size_t i_length, int16_t *q, size_t q_length);
+//   struct Answer ortkaveq_receive_b(uint8_t mode, size_t size, const uint8_t *scheme, size_t scheme_length,
+//                                    const int16_t *i, size_t i_length, const int16_t *q, size_t q_length, uint8_t *area, size_t area_length);
 //
 // What a caller in C owes: each pointer leads to that many elements, what is written overlaps nothing else that is passed, and nothing
 // else touches any of them meanwhile.
 //
-//   words       what encode and decode answered, as a caller in C reads it
-//   payload_a   what sending and receiving Payload A answered
+//   words      what encode and decode answered, as a caller in C reads it
+//   payloads   what sending and receiving a payload answered
 ghost use mathlib.Core.Path.{_≡_};
-ghost use Rattle.bridge.specs.Calls.{EncodeCall, DecodeCall, SendACall, ReceiveACall};
+ghost use Rattle.bridge.specs.Calls.{EncodeCall, DecodeCall, SendACall, ReceiveACall, SendBCall, ReceiveBCall};
 
-mod payload_a;
+mod payloads;
 mod words;
 
 // Document 01's number, 0 for success, its place, and the count of bits mended, 0 where the call has none.
@@ -59,7 +63,7 @@ pub extern "C" fn ortkaveq_decode(code: u8, word: &[u8], out: &mut [u8]) -> Answ
 pub extern "C" fn ortkaveq_send_a(mode: u8, frame: &[u8], i: &mut [i16], q: &mut [i16]) -> Answer
     ensures { λ r. ⌜ SendACall mode (now (frame .entry)) (now (i .entry)) (now (q .entry)) r (now (i .exit)) (now (q .exit)) ⌝ }
 {
-    payload_a::of_sent(payload::send_a(mode, frame, i, q))
+    payloads::of_sent(payload_a::send_a(mode, frame, i, q))
 }
 
 // Receives a frame of Payload A from 512 elements of I and of Q: writes its bytes to the first of the area.
@@ -72,7 +76,47 @@ pub extern "C" fn ortkaveq_receive_a(
 ) -> ReceivedAnswer
     ensures { λ r. ⌜ ReceiveACall mode (now (i .entry)) (now (q .entry)) (now (area .entry)) r (now (area .exit)) ⌝ }
 {
-    payload_a::of_received(payload::receive_a(mode, i, q, area))
+    payloads::of_received_a(payload_a::receive_a(mode, i, q, area))
+}
+
+// Sends a frame of Payload B by a scheme: writes 256 elements of I and of Q for each OFDM symbol needed.
+#[no_mangle]
+pub extern "C" fn ortkaveq_send_b(
+    mode: u8,
+    frame: &[u8],
+    scheme: &[u8],
+    i: &mut [i16],
+    q: &mut [i16],
+) -> Answer
+    ensures { λ r. ⌜ SendBCall mode (now (frame .entry)) (now (scheme .entry)) (now (i .entry)) (now (q .entry)) r (now (i .exit)) (now (q .exit)) ⌝ }
+{
+    payloads::of_sent(payload_b::send_b(mode, frame, scheme, i, q))
+}
+
+// Receives a frame of Payload B, of so many bytes: writes them to the first of the area.
+#[no_mangle]
+pub extern "C" fn ortkaveq_receive_b(
+    mode: u8,
+    size: usize,
+    scheme: &[u8],
+    i: &[i16],
+    q: &[i16],
+    area: &mut [u8],
+) -> Answer
+    ensures { λ r. ⌜ ReceiveBCall mode size (now (scheme .entry)) (now (i .entry)) (now (q .entry)) (now (area .entry)) r (now (area .exit)) ⌝ }
+{
+    payloads::of_received_b(payload_b::receive_b(mode, size, scheme, i, q, area))
+}
+
+// Success, with this count.
+fn accepted(mended: u32) -> Answer
+    ensures { λ r. ⌜ r ≡ record { number = 0; mended = mended; place = 0 } ⌝ }
+{
+    Answer {
+        number: 0,
+        mended,
+        place: 0,
+    }
 }
 
 // A number and its place, with no count.

@@ -4,10 +4,12 @@ ghost use Prim.Native.Nat.{_^_, _<_};
 ghost use Rattle.bch.specs.Answers.{numberOf, placeOf, decodeMended};
 ghost use Rattle.bridge.specs.Calls.{ofEncoded, ofDecoded};
 use crate::Answer;
+use crate::accepted;
 use crate::at;
 use bch::Decoded;
 use bch::Encoded;
 use bch::Refusal;
+use bch::answers;
 
 // What encode answered.
 pub(crate) fn of_encoded(a: Encoded) -> Answer
@@ -30,26 +32,9 @@ pub(crate) fn of_decoded(a: Decoded) -> Answer
     }
 }
 
-// Success, with this count.
-fn accepted(mended: u32) -> Answer
-    ensures { λ r. ⌜ r ≡ record { number = 0; mended = mended; place = 0 } ⌝ }
-{
-    Answer {
-        number: 0,
-        mended,
-        place: 0,
-    }
-}
-
 // The number and place of a reason.
 fn refused(why: Refusal) -> Answer
     ensures { λ r. ⌜ r ≡ record { number = numberOf why; mended = 0; place = placeOf why } ⌝ }
 {
-    match why {
-        Refusal::UnknownCode => at(1, 0),
-        Refusal::WrongLength => at(2, 0),
-        Refusal::NoRoom => at(3, 0),
-        Refusal::NotABit(i) => at(4, i as u64),
-        Refusal::Uncorrectable => at(9, 0),
-    }
+    at(answers::number(why) as u32, answers::place(why) as u64)
 }

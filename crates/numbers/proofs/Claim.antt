@@ -8,11 +8,12 @@ use Rattle.points.specs.Grid.{placeOf}
 use Rattle.points.specs.Constellations.{tables, columns, points, pointOf}
 use Rattle.points.specs.Dqpsk.{phases, turn, phasePoint, turnedFrom, turned}
 use Rattle.payload.specs.Scrambler.{formed, shifted, scrambledFrom, scrambled}
-use Rattle.payload.specs.Check.{checkOf}
-use Rattle.payload.specs.Segments.{symbolOf, framed}
-use Rattle.payload.specs.CodedA.{pointsA}
+use Rattle.payload_a.specs.Check.{checkOf}
+use Rattle.payload_a.specs.Segments.{symbolOf, framed}
+use Rattle.payload_a.specs.CodedA.{pointsA}
+use Rattle.payload_b.specs.CodedB.{sumOf}
 use Rattle.numbers.specs.Table.{table, Agrees}
 
 pub claim : Agrees table
-unfolding table scrambled scrambledFrom formed shifted checkOf encoded remainder remainderFrom step reduced digits pointsA framed symbolOf turned turnedFrom turn phasePoint phases placeOf pointOf points columns tables
-claim = (refl, (refl, (refl, (refl, (refl, (refl, (refl, (refl, (refl, (refl, (refl, (refl, (refl, (refl, tt))))))))))))))
+unfolding table scrambled scrambledFrom formed shifted checkOf encoded remainder remainderFrom step reduced digits pointsA framed symbolOf turned turnedFrom turn phasePoint phases placeOf pointOf points columns tables sumOf
+claim = (refl, (refl, (refl, (refl, (refl, (refl, (refl, (refl, (refl, (refl, (refl, (refl, (refl, (refl, (refl, (refl, (refl, tt)))))))))))))))))

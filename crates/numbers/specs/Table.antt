@@ -2,7 +2,7 @@
 -- Assumes nothing.
 use mathlib.Core.Path.{_≡_}
 use mathlib.Core.List.{List, [], _∷_, _++_}
-use Prim.Native.Nat.{ℕ, _-_}
+use Prim.Native.Nat.{ℕ, _-_, _*_}
 use lib.ListN.{replicate, take}
 use Rattle.bch.specs.Words.{digits}
 use Rattle.bch.specs.Codes.{code1, code2, code3, encoded}
@@ -12,8 +12,9 @@ use Rattle.points.specs.Constellations.{pointOf}
 use Rattle.points.specs.declared.Point.{Point}
 use Rattle.points.specs.declared.Point.the-variants.{At}
 use Rattle.payload.specs.Scrambler.{scrambled}
-use Rattle.payload.specs.Check.{checkOf}
-use Rattle.payload.specs.CodedA.{pointsA}
+use Rattle.payload_a.specs.Check.{checkOf}
+use Rattle.payload_a.specs.CodedA.{pointsA}
+use Rattle.payload_b.specs.CodedB.{sumOf, bitsFor, symbolsFor}
 
 pub record Row : Type 1 where
   pub Value : Type 0
@@ -26,6 +27,10 @@ row {A} ours document = record { Value = A; ours = ours; document = document }
 -- k bits, of which only the last is set
 abbrev pub lastOf : ℕ → List ℕ
 lastOf k = replicate (k - 1) 0 ++ (1 ∷ [])
+
+-- the scheme of all QPSK: two bits to each of the 210 points
+abbrev pub allQpsk : List ℕ
+allQpsk = replicate 210 2
 
 -- the first five points are those of any mode and frame
 unfoldable pub table : List Row
@@ -45,6 +50,9 @@ table =
     row (pointOf 3 0b100) (At +0 +2) ∷
     row (pointOf 3 0b010) (At +0 -2) ∷
     row (pointOf 9 0b101100101) (At -5 +1) ∷
+    row (bitsFor 2 54) 504 ∷
+    row (symbolsFor 2 54 allQpsk) 2 ∷
+    row (sumOf allQpsk * symbolsFor 2 54 allQpsk - bitsFor 2 54) 336 ∷
     []
 
 -- the claim: in each row the two are the same

@@ -1,13 +1,14 @@
--- A list after a part of it was written.
+-- A list after a part of it was written; and lists of bits: one after a bit was written, and zeros.
 -- Assumes nothing.
 use mathlib.Core.Path.{_≡_, sym, ap, ap₂, _∙_}
-use mathlib.Core.List.{List, _++_, append-nil, append-assoc}
-use Prim.Native.Nat.{ℕ, _+_, _≤_}
+use mathlib.Core.List.{List, [], _∷_, _++_, append-nil, append-assoc}
+use Prim.Native.Nat.{ℕ, zero, suc, _+_, _≤_, _<_}
 use native.Mathlib.Nat.{le-refl}
 use native.Mathlib.Omega.{arith}
 use borrow.Rule.Slice.PartMut.{putMid, postOf}
-use lib.ListN.{length, take, drop, length-append, length-drop, drop-of-length-le}
+use lib.ListN.{length, take, drop, set, replicate, length-append, length-drop, drop-of-length-le}
 use lib.Seq.{take-at, take-length, drop-drop, length-take-le}
+use Rattle.bch.specs.Words.{Bits}
 
 module _ (a k : ℕ) (xs : List ℕ) (fits : a + k ≤ length xs) where
   -- the part is as long as it should be
@@ -38,3 +39,14 @@ module _ (out bits : List ℕ) (at : ℕ) (fits : at + length bits ≤ length ou
   put-behind p next end ee ep en =
       rw (en, ep) (take-at (p ++ bits) (drop (at + length bits) out) end
       (length-append p bits ∙ omega (arith, ap length ep, length-take-le at out (omega arith))))
+
+-- ---- bits
+
+pub bits-set : (bs : List ℕ) (i b : ℕ) → Bits bs → b < 2 → Bits (set bs i b)
+bits-set [] i b h l = h
+bits-set (x ∷ bs) zero b h l = (l, h .1)
+bits-set (x ∷ bs) (suc i) b h l = (h .0, bits-set bs i b (h .1) l)
+
+pub bits-zeros : (n : ℕ) → Bits (replicate n 0)
+bits-zeros zero = tt
+bits-zeros (suc n) = (omega arith, bits-zeros n)

@@ -1,13 +1,16 @@
--- Numbers and their binary digits: one digit more at the end, and numbers with the same digits.
+-- Numbers and their binary digits: one digit more at the end, numbers with the same digits, and the number that bits are the digits of.
 -- Assumes nothing.
-use mathlib.Core.Path.{_≡_, sym, ap, ap₂, _∙_}
-use mathlib.Core.List.{[], _∷_, _++_}
-use Prim.Native.Nat.{ℕ, zero, suc, _+_, _*_, _/_, _%_, _^_, _<_}
-use native.Mathlib.Nat.{div-one, mod-one, mod-eq-of-lt}
+use mathlib.Core.Path.{_≡_, refl, sym, ap, ap₂, _∙_}
+use mathlib.Core.List.{List, [], _∷_, _++_, append-nil, append-assoc}
+use Prim.Native.Nat.{ℕ, zero, suc, _+_, _*_, _/_, _%_, _^_, _≤_, _<_}
+use native.Mathlib.Nat.{add-zero, div-one, mod-one, mod-eq-of-lt}
 use native.Mathlib.Numerals.{one-add}
 use native.Mathlib.Omega.{arith}
-use lib.Pow.{shr-shr, mod-pow-add}
-use Rattle.bch.specs.Words.{digits}
+use lib.ListN.{length}
+use lib.Pow.{shr-shr, mod-pow-add, pow-mono}
+use Rattle.bch.specs.Words.{Bits, digits}
+use Rattle.bch.proofs.Digits.{length-digits, digits-bits}
+use Rattle.payload.specs.Bits.{numberFrom, number}
 
 -- the lowest digit stands last
 pub digits-last : (r x : ℕ) → digits (suc r) x ≡ digits r (x / 2) ++ (x % 2 ∷ [])
@@ -31,3 +34,65 @@ digits-same (suc r) x y e =
 
 pub digits-inj : (r x y : ℕ) → x < 2 ^ r → y < 2 ^ r → digits r x ≡ digits r y → x ≡ y
 digits-inj r x y hx hy e = sym (mod-eq-of-lt hx) ∙ digits-same r x y e ∙ mod-eq-of-lt hy
+
+-- ---- the number that bits are the digits of
+
+from-snoc : (x : ℕ) (bits : List ℕ) (b : ℕ) → numberFrom x (bits ++ (b ∷ [])) ≡ 2 * numberFrom x bits + b % 2
+unfolding numberFrom
+from-snoc x [] b = refl
+from-snoc x (c ∷ bits) b = from-snoc (2 * x + c % 2) bits b
+
+-- one bit more
+pub number-snoc : (bits : List ℕ) (b : ℕ) → number (bits ++ (b ∷ [])) ≡ 2 * number bits + b % 2
+number-snoc bits b = from-snoc 0 bits b
+
+pub number-nil : number [] ≡ 0
+unfolding numberFrom
+number-nil = refl
+
+from-lt : (k x : ℕ) (bits : List ℕ) → x < 2 ^ k → numberFrom x bits < 2 ^ (k + length bits)
+unfolding numberFrom
+from-lt k x [] l = rw (add-zero k) l
+from-lt k x (b ∷ bits) l =
+    let e : k + suc (length bits) ≡ suc k + length bits = omega arith in
+    let more : 2 * x + b % 2 < 2 ^ suc k = omega arith in
+    rw e (from-lt (suc k) (2 * x + b % 2) bits more)
+
+from-digits : (k x : ℕ) (bits : List ℕ) → Bits bits → digits (k + length bits) (numberFrom x bits) ≡ digits k x ++ bits
+unfolding numberFrom
+from-digits k x [] h = ap (λ (n : ℕ). digits n x) (add-zero k) ∙ sym (append-nil (digits k x))
+from-digits k x (b ∷ bits) h =
+    let e : k + suc (length bits) ≡ suc k + length bits = omega arith in
+    let twice : 2 * x + b % 2 ≡ x * 2 + b = omega (arith, h .0) in
+    ap (λ (n : ℕ). digits n (numberFrom (2 * x + b % 2) bits)) e ∙ from-digits (suc k) (2 * x + b % 2) bits (h .1)
+    ∙ ap (λ (l : List ℕ). l ++ bits) (ap (digits (suc k)) twice ∙ digits-snoc k x b (h .0)) ∙ append-assoc (digits k x) (b ∷ []) bits
+
+-- bits are the digits of their number
+pub digits-number : (bits : List ℕ) → Bits bits → digits (length bits) (number bits) ≡ bits
+unfolding digits
+digits-number bits h =
+    let none : 0 + length bits ≡ length bits = omega arith in
+    ap (λ (n : ℕ). digits n (number bits)) (sym none) ∙ from-digits 0 0 bits h
+
+-- the number of n bits, or of less, is below 2^n
+pub number-low : (n : ℕ) (bits : List ℕ) → length bits ≤ n → number bits < 2 ^ n
+number-low n bits l =
+    let p : 2 ^ (0 + length bits) ≤ 2 ^ n = pow-mono (omega arith) in
+    omega (arith, from-lt 0 0 bits (omega arith))
+
+-- that of 32, or of less, fits in 32 bits
+pub number-fits : (bits : List ℕ) → length bits ≤ 32 → number bits % 2 ^ 32 ≡ number bits
+number-fits bits l = mod-eq-of-lt (number-low 32 bits l)
+
+-- bits are the digits of what is read as their number
+pub number-read : (bits : List ℕ) (x : ℕ) → Bits bits → length bits ≤ 32 → x ≡ number bits % 2 ^ 32 → (digits (length bits) x ≡ bits) × (x < 2 ^ length bits)
+number-read bits x h l e =
+    let same : x ≡ number bits = e ∙ number-fits bits l in
+    (ap (digits (length bits)) same ∙ digits-number bits h, omega (arith, same, number-low (length bits) bits (omega arith)))
+
+-- and a number is that of its digits
+pub number-digits : (n x : ℕ) → x < 2 ^ n → number (digits n x) ≡ x
+number-digits n x l =
+    let ds = digits n x in
+    let back : digits n (number ds) ≡ ds = ap (λ (m : ℕ). digits m (number ds)) (sym (length-digits n x)) ∙ digits-number ds (digits-bits n x) in
+    digits-inj n (number ds) x (number-low n ds (omega (arith, length-digits n x))) l back

@@ -31,6 +31,11 @@ pub length-spread : (levels : List ℤ) → length (spread levels) ≡ 256
 unfolding spread
 length-spread levels = length-levels levels 0 256
 
+-- what a list of 256 places holds once levels are put there
+pub levels-there : (levels out : List ℤ) {after : List ℤ} → after ≡ levelsFrom levels 0 (length out) → length out ≡ 256 → after ≡ spread levels
+unfolding spread
+levels-there levels out {after} there e = rw e at there
+
 levels-at : (levels : List ℤ) (k n i : ℕ) → i < n → getD (levelsFrom levels k n) i (pos 0) ≡ levelOn levels (carrierAt (k + i))
 unfolding levelsFrom
 levels-at levels k zero i h = absurd (omega arith)

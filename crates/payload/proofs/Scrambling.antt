@@ -1,9 +1,10 @@
--- Scrambled words: as long as the words, bits where those are, joined where those are joined, and scrambling again gives the words back.
+-- Scrambled words: as long as the words, bits where those are, joined where those are joined, and the words back when scrambled again; and the register.
 -- Assumes nothing.
-use mathlib.Core.Path.{_≡_, refl}
+use mathlib.Core.Path.{_≡_, refl, sym, ap, _∙_}
 use mathlib.Core.List.{List, [], _∷_, _++_}
-use Prim.Native.Nat.{ℕ, _/_, _%_, _^_, _<_}
-use native.Mathlib.Nat.{mod-lt}
+use Prim.Native.Nat.{ℕ, zero, suc, _+_, _/_, _%_, _^_, _<_}
+use native.Mathlib.Nat.{zero-add, mod-lt}
+use native.Mathlib.Omega.{arith}
 use lib.Bits.{xor-lt}
 use lib.Dec.{lit<}
 use lib.ListN.{length}
@@ -20,6 +21,10 @@ unfolding scrambledFrom
 scrambled-again r [] = refl
 scrambled-again r (b ∷ bs) = rw (xor-cancel (formed r) b, scrambled-again (shifted r) bs)
 
+-- so words scrambled to the same are the same
+pub scrambled-inj : (r : ℕ) (a b : List ℕ) → scrambledFrom r a ≡ scrambledFrom r b → a ≡ b
+scrambled-inj r a b e = sym (scrambled-again r a) ∙ ap (scrambledFrom r) e ∙ scrambled-again r b
+
 pub length-scrambled : (r : ℕ) (bs : List ℕ) → length (scrambledFrom r bs) ≡ length bs
 unfolding scrambledFrom
 length-scrambled r [] = refl
@@ -34,3 +39,11 @@ pub scrambled-append : (r : ℕ) (a b : List ℕ) → scrambledFrom r (a ++ b) �
 unfolding scrambledFrom registerAfter
 scrambled-append r [] b = refl
 scrambled-append r (x ∷ a) b = rw (scrambled-append (shifted r) a b)
+
+-- the register after some bits and then more
+pub register-more : (m n r : ℕ) → registerAfter (m + n) r ≡ registerAfter n (registerAfter m r)
+unfolding registerAfter
+register-more zero n r = ap (λ (k : ℕ). registerAfter k r) (zero-add n)
+register-more (suc m) n r =
+    let e : suc m + n ≡ suc (m + n) = omega arith in
+    ap (λ (k : ℕ). registerAfter k r) e ∙ register-more m n (shifted r)

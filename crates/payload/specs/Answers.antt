@@ -1,12 +1,10 @@
--- Document 01's number, place and counts for each answer ("Refusal numbers"). In a refusal all counts are 0.
+-- Document 01's number and place for each refusal, and for what a send job answers ("Refusal numbers").
 -- Assumes nothing.
 use Prim.Native.Nat.{ℕ}
 use Rattle.payload.specs.declared.Refusal.{Refusal}
 use Rattle.payload.specs.declared.Refusal.the-variants.{UnknownMode, WrongLength, NoRoom, BadScheme, TooManySymbols, Filled, StrayPoint, Uncorrectable, WrongCheck}
 use Rattle.payload.specs.declared.Sent.{Sent}
 use Rattle.payload.specs.declared.Sent.the-variants.{Accepted as Written, Refused as NotWritten}
-use Rattle.payload.specs.declared.ReceivedA.{ReceivedA}
-use Rattle.payload.specs.declared.ReceivedA.the-variants.{Accepted, Refused}
 
 abbrev pub numberOf : Refusal → ℕ
 numberOf UnknownMode = 1
@@ -38,20 +36,3 @@ sentNumber (NotWritten r) = numberOf r
 abbrev pub sentPlace : Sent → ℕ
 sentPlace Written = 0
 sentPlace (NotWritten r) = placeOf r
-
--- what receiving Payload A answers
-abbrev pub numberA : ReceivedA → ℕ
-numberA (Accepted m p) = 0
-numberA (Refused r) = numberOf r
-
-abbrev pub placeA : ReceivedA → ℕ
-placeA (Accepted m p) = 0
-placeA (Refused r) = placeOf r
-
-abbrev pub mendedA : ReceivedA → ℕ
-mendedA (Accepted m p) = m
-mendedA (Refused r) = 0
-
-abbrev pub protectedA : ReceivedA → ℕ
-protectedA (Accepted m p) = p
-protectedA (Refused r) = 0

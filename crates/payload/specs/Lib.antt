@@ -1,10 +1,5 @@
 pub mod Bits
 pub mod Scrambler
-pub mod Check
-pub mod Segments
 pub mod Grids
-pub mod Phases
-pub mod CodedA
 pub mod Answers
-pub mod PromiseA
-pub mod HeldA
+pub mod Checked

@@ -1,12 +1,12 @@
 // Frames as bits, one to an element, most significant first.
 ghost use mathlib.Core.Path.{_≡_};
-ghost use Prim.Native.Nat.{_*_, _^_, _≤_, _<_};
+ghost use Prim.Native.Nat.{_*_, _%_, _^_};
 ghost use lib.ListN.{length};
-ghost use Rattle.bch.specs.Words.{Bits, digits};
-ghost use Rattle.payload.specs.Bits.{bitsOf};
+ghost use Rattle.bch.specs.Words.{digits};
+ghost use Rattle.payload.specs.Bits.{bitsOf, number, bytesOf, bitsPut, bytesPut};
 
 // The low binary digits of x, as many as out has places.
-pub(crate) fn put_digits(x: u32, out: &mut [u8])
+pub fn put_digits(x: u32, out: &mut [u8])
     ensures { λ _. ⌜ now (out .exit) ≡ digits (length (now (out .entry))) x ⌝ }
 {
     let mut rest = x;
@@ -18,22 +18,46 @@ pub(crate) fn put_digits(x: u32, out: &mut [u8])
     }
 }
 
-// The number that bits are the digits of.
-pub(crate) fn number(bits: &[u8]) -> u32
-    requires { ⌜ Bits (now bits) × (length (now bits) ≤ 32) ⌝ }
-    ensures { λ x. ⌜ (digits (length (now (bits .entry))) x ≡ now (bits .entry)) × (x < 2 ^ length (now (bits .entry))) ⌝ }
+// The number that bits are the digits of, modulo 2^32.
+pub fn number(bits: &[u8]) -> u32
+    ensures { λ x. ⌜ x ≡ number (now (bits .entry)) % 2 ^ 32 ⌝ }
 {
     let mut x: u32 = 0;
     let mut i: usize = 0;
     while i < bits.len() {
-        x = x * 2 + bits[i] as u32;
+        x = x % 0x8000_0000 * 2 + (bits[i] % 2) as u32;
         i += 1;
     }
     x
 }
 
-// The bits of a frame.
-pub(crate) fn put_bits(frame: &[u8], out: &mut [u8])
+// The bits of a frame, where out has just room for them.
+pub fn put_bits(frame: &[u8], out: &mut [u8])
+    ensures { λ _. ⌜ now (out .exit) ≡ bitsPut (now (frame .entry)) (now (out .entry)) ⌝ }
+{
+    if out.len() % 8 != 0 {
+        return;
+    }
+    if out.len() / 8 != frame.len() {
+        return;
+    }
+    write_bits(frame, out);
+}
+
+// The frame of bits, where out has just room for it.
+pub fn put_bytes(bits: &[u8], out: &mut [u8])
+    ensures { λ _. ⌜ now (out .exit) ≡ bytesPut (now (bits .entry)) (now (out .entry)) ⌝ }
+{
+    if bits.len() % 8 != 0 {
+        return;
+    }
+    if bits.len() / 8 != out.len() {
+        return;
+    }
+    write_bytes(bits, out);
+}
+
+fn write_bits(frame: &[u8], out: &mut [u8])
     requires { ⌜ length (now out) ≡ 8 * length (now frame) ⌝ }
     ensures { λ _. ⌜ now (out .exit) ≡ bitsOf (now (frame .entry)) ⌝ }
 {
@@ -45,10 +69,9 @@ pub(crate) fn put_bits(frame: &[u8], out: &mut [u8])
     }
 }
 
-// The frame of bits.
-pub(crate) fn put_bytes(bits: &[u8], out: &mut [u8])
-    requires { ⌜ Bits (now bits) × (length (now bits) ≡ 8 * length (now out)) ⌝ }
-    ensures { λ _. ⌜ bitsOf (now (out .exit)) ≡ now (bits .entry) ⌝ }
+fn write_bytes(bits: &[u8], out: &mut [u8])
+    requires { ⌜ length (now bits) ≡ 8 * length (now out) ⌝ }
+    ensures { λ _. ⌜ now (out .exit) ≡ bytesOf (length (now (out .entry))) (now (bits .entry)) ⌝ }
 {
     let mut i: usize = 0;
     while i < out.len() {

@@ -11,18 +11,19 @@ use borrow.Author.Tests.{le-leb, eq-eqb, ne-eqb}
 use lib.Dec.{eqb}
 use lib.IntN.{ℤ}
 use lib.ListN.{length, getD}
-use Rattle.payload.specs.CodedA.{bytesA}
+use Rattle.payload_a.specs.CodedA.{bytesA}
 use Rattle.payload.specs.Answers.{numberOf, sentNumber}
-use Rattle.payload.specs.PromiseA.{room, Sends, SendingA, ReceivingA}
+use Rattle.payload.specs.Checked.{room}
+use Rattle.payload_a.specs.PromiseA.{Sends, SendingA, ReceivingA}
 use Rattle.payload.specs.declared.Refusal.{Refusal}
 use Rattle.payload.specs.declared.Refusal.the-variants.{UnknownMode, WrongLength, NoRoom, BadScheme, TooManySymbols, Filled, StrayPoint, Uncorrectable, WrongCheck}
 use Rattle.payload.specs.declared.Sent.{Sent}
 use Rattle.payload.specs.declared.Sent.the-variants.{Accepted as Written, Refused as NotWritten}
-use Rattle.payload.specs.declared.ReceivedA.{ReceivedA}
-use Rattle.payload.specs.declared.ReceivedA.the-variants.{Refused}
+use Rattle.payload_a.specs.declared.ReceivedA.{ReceivedA}
+use Rattle.payload_a.specs.declared.ReceivedA.the-variants.{Refused}
 use Rattle.payload.proofs.Octets.{bytes-from}
-use Rattle.payload.proofs.TripsA.{round-trip}
-use Rattle.payload.proofs.Verdicts.{wrong-length, sendable}
+use Rattle.payload_a.proofs.TripsA.{round-trip}
+use Rattle.payload_a.proofs.VerdictsA.{wrong-length, sendable}
 use Rattle.report.specs.Made.{tripOf}
 
 -- no refusal has number 0, and number 2 is the length

@@ -7,11 +7,11 @@ use mathlib.Core.List.{List, [], _∷_, _++_}
 use Prim.Native.Nat.{ℕ, zero, suc, _+_, _/_, _%_, _≤_}
 use lib.Dec.{ltb, eqb}
 use lib.ListN.{length}
-use Rattle.payload.specs.CodedA.{bytesA}
+use Rattle.payload_a.specs.CodedA.{bytesA}
 use Rattle.payload.specs.Answers.{numberOf, placeOf}
 use Rattle.payload.specs.declared.Refusal.the-variants.{WrongLength}
-use Rattle.payload.specs.declared.ReceivedA.{ReceivedA}
-use Rattle.payload.specs.declared.ReceivedA.the-variants.{Accepted, Refused}
+use Rattle.payload_a.specs.declared.ReceivedA.{ReceivedA}
+use Rattle.payload_a.specs.declared.ReceivedA.the-variants.{Accepted, Refused}
 use Rattle.report.specs.declared.Text.{Text}
 use Rattle.report.specs.Lines.{ascii, textOf}
 

@@ -8,8 +8,8 @@ ghost use Prim.Native.Nat.{_≤_};
 ghost use lib.ListN.{length};
 ghost use Rattle.report.specs.Lines.{linesOf, textOf, Counted};
 ghost use Rattle.report.specs.Made.{modeFor, tripOf};
-use payload::ReceivedA;
 use payload::Sent;
+use payload_a::ReceivedA;
 
 mod lines;
 mod writer;
@@ -41,11 +41,11 @@ fn trip(mode: u8, frame: &[u8]) -> ReceivedA
 {
     let mut i = levels();
     let mut q = levels();
-    if let Sent::Refused(refusal) = payload::send_a(mode, frame, &mut i, &mut q) {
+    if let Sent::Refused(refusal) = payload_a::send_a(mode, frame, &mut i, &mut q) {
         return ReceivedA::Refused(refusal);
     }
     let mut area = [0u8; 94];
-    payload::receive_a(mode, &i, &q, &mut area)
+    payload_a::receive_a(mode, &i, &q, &mut area)
 }
 
 // What the bench program writes for a frame.

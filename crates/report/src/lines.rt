@@ -4,8 +4,8 @@ ghost use Rattle.report.specs.Lines.{textOf};
 ghost use Rattle.report.specs.Made.{acceptedLines, refusedLine, answerLines};
 use crate::Text;
 use crate::writer;
-use payload::ReceivedA;
 use payload::answers;
+use payload_a::ReceivedA;
 
 // The two lines for a frame that was received.
 fn accepted(bytes: usize, mended: usize, differing: usize) -> Text

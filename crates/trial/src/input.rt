@@ -1,4 +1,4 @@
-// Reading standard input: a byte, a list. A count, a list of bytes and a part of a list of levels ask for all their bytes at once, and none
+// Reading standard input: a byte, a frame length, a list. A count, a list of bytes and a part of a list of levels ask for all their bytes at once, and none
 // is read ahead of the request.
 ghost use mathlib.Core.Path.{_≡_};
 ghost use Prim.Native.Nat.{_*_, _^_, _≤_, _<_};
@@ -22,12 +22,29 @@ pub struct Listed {
     pub whole: bool,
 }
 
+// What was read of I and Q: how many elements of each, and whether that is the whole of both.
+pub struct Points {
+    pub i: usize,
+    pub q: usize,
+    pub whole: bool,
+}
+
 pub(crate) fn read_byte() -> Byte {
     let mut one = [0u8; 1];
     if io::read_full(STDIN_FILENO, &mut one) < 1 {
         return Byte::End;
     }
     Byte::Of(one[0])
+}
+
+// A frame length, in eight bytes: the count of what it answers.
+pub(crate) fn read_size() -> Listed {
+    let mut bytes = [0u8; 8];
+    let got = io::read_full(STDIN_FILENO, &mut bytes);
+    Listed {
+        count: value(&bytes),
+        whole: got == 8,
+    }
 }
 
 // A list of bytes, into the first elements of room.
@@ -43,8 +60,28 @@ pub(crate) fn read_list(room: &mut [u8]) -> Listed
     Listed { count: n, whole }
 }
 
+// The lists I and Q, each into the first elements of its room.
+pub(crate) fn read_points(i: &mut [i16], q: &mut [i16]) -> Points
+    ensures { λ r. ⌜ (r .i ≤ length (now (i .entry))) × (r .q ≤ length (now (q .entry))) ⌝ }
+{
+    let of_i = read_levels(i);
+    if !of_i.whole {
+        return Points {
+            i: 0,
+            q: 0,
+            whole: false,
+        };
+    }
+    let of_q = read_levels(q);
+    Points {
+        i: of_i.count,
+        q: of_q.count,
+        whole: of_q.whole,
+    }
+}
+
 // A list of levels, into the first elements of room.
-pub(crate) fn read_levels(room: &mut [i16]) -> Listed
+fn read_levels(room: &mut [i16]) -> Listed
     ensures { λ r. ⌜ r .count ≤ length (now (room .entry)) ⌝ }
 {
     let head = read_count(room.len());

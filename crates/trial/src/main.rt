@@ -10,6 +10,9 @@
 //   2 decode       code (1 byte), word, out      mended               out
 //   3 send A       mode (1 byte), frame, I, Q                         I, Q
 //   4 receive A    mode (1 byte), I, Q, area     mended, protected    area
+//   5 send B       mode (1 byte), frame, scheme, I, Q                 I, Q
+//   6 receive B    mode (1 byte), frame length (8 bytes), scheme, I, Q, area
+//                                                mended               area
 //
 // Another job byte, a list too long for its room and a request that is cut end the program after the responses so far.
 ghost use mathlib.Core.Path.{_≡_};
@@ -18,9 +21,10 @@ use input::Byte;
 
 mod answer;
 mod input;
+mod jobs_a;
+mod jobs_b;
 mod output;
 mod parts;
-mod payload_a;
 mod word;
 
 // The most elements of a list of bytes.
@@ -50,8 +54,10 @@ fn serve(first: &mut [u8], second: &mut [u8], i: &mut [i16], q: &mut [i16]) -> b
     };
     match job {
         1 | 2 => word::serve(job, first, second),
-        3 => payload_a::serve_send(first, i, q),
-        4 => payload_a::serve_receive(i, q, first),
+        3 => jobs_a::serve_send(first, i, q),
+        4 => jobs_a::serve_receive(i, q, first),
+        5 => jobs_b::serve_send(first, second, i, q),
+        6 => jobs_b::serve_receive(second, i, q, first),
         _ => false,
     }
 }

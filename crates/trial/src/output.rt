@@ -1,4 +1,4 @@
-// Writing to standard output: how a response begins, a count, a list. False says that it could not be written.
+// Writing to standard output: how a response begins, a count, a list, the response to a send job. False says that it could not be written.
 ghost use mathlib.Core.Path.{_≡_};
 ghost use mathlib.Core.List.{_∷_};
 ghost use Prim.Native.Nat.{_*_, _≤_};
@@ -6,9 +6,11 @@ ghost use lib.ListN.{length};
 ghost use mir.Syntax.{w16};
 ghost use mir.Val.{ofZ};
 ghost use Rattle.trial.specs.Format.{littleEndian, packed};
+use crate::answer;
 use crate::parts;
 use crate::parts::PART;
 use libc::STDOUT_FILENO;
+use payload::Sent;
 
 // How every response begins.
 pub(crate) fn write_answer(number: u8, place: usize) -> bool {
@@ -29,9 +31,16 @@ pub(crate) fn write_list(elements: &[u8]) -> bool {
 }
 
 // A list of levels, whole.
-pub(crate) fn write_levels(levels: &[i16]) -> bool {
+fn write_levels(levels: &[i16]) -> bool {
     let mut bytes = [0u8; 2 * PART];
     write_length(levels.len()) && write_parts(levels, &mut bytes)
+}
+
+// The response to job 3 or 5: I and Q follow the answer.
+pub(crate) fn write_sent(answer: Sent, i: &[i16], q: &[i16]) -> bool {
+    write_answer(answer::sent_number(answer), answer::sent_place(answer))
+        && write_levels(i)
+        && write_levels(q)
 }
 
 // The count of a list, in four bytes.

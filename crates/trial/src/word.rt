@@ -1,12 +1,12 @@
 // Jobs 1 and 2: encode and decode one word.
 ghost use mathlib.Core.Path.{_≡_};
-ghost use Rattle.bch.specs.Answers.{numberOf, placeOf, encodeNumber, encodePlace, decodeNumber, decodePlace, decodeMended};
+ghost use Rattle.bch.specs.Answers.{encodeNumber, encodePlace, decodeNumber, decodePlace, decodeMended};
 use crate::input;
 use crate::input::Byte;
 use crate::output;
 use bch::Decoded;
 use bch::Encoded;
-use bch::Refusal;
+use bch::answers;
 
 // Reads the fields of both jobs, code, word and out, and makes the call. False ends the program.
 pub(crate) fn serve(job: u8, word: &mut [u8], out: &mut [u8]) -> bool {
@@ -53,7 +53,7 @@ fn encode_number(answer: Encoded) -> u8
 {
     match answer {
         Encoded::Accepted => 0,
-        Encoded::Refused(refusal) => number(refusal),
+        Encoded::Refused(refusal) => answers::number(refusal),
     }
 }
 
@@ -62,7 +62,7 @@ fn encode_place(answer: Encoded) -> usize
 {
     match answer {
         Encoded::Accepted => 0,
-        Encoded::Refused(refusal) => place(refusal),
+        Encoded::Refused(refusal) => answers::place(refusal),
     }
 }
 
@@ -71,7 +71,7 @@ fn decode_number(answer: Decoded) -> u8
 {
     match answer {
         Decoded::Accepted(_) => 0,
-        Decoded::Refused(refusal) => number(refusal),
+        Decoded::Refused(refusal) => answers::number(refusal),
     }
 }
 
@@ -80,7 +80,7 @@ fn decode_place(answer: Decoded) -> usize
 {
     match answer {
         Decoded::Accepted(_) => 0,
-        Decoded::Refused(refusal) => place(refusal),
+        Decoded::Refused(refusal) => answers::place(refusal),
     }
 }
 
@@ -90,29 +90,5 @@ fn decode_mended(answer: Decoded) -> usize
     match answer {
         Decoded::Accepted(mended) => mended,
         Decoded::Refused(_) => 0,
-    }
-}
-
-fn number(refusal: Refusal) -> u8
-    ensures { λ r. ⌜ r ≡ numberOf refusal ⌝ }
-{
-    match refusal {
-        Refusal::UnknownCode => 1,
-        Refusal::WrongLength => 2,
-        Refusal::NoRoom => 3,
-        Refusal::NotABit(_) => 4,
-        Refusal::Uncorrectable => 9,
-    }
-}
-
-fn place(refusal: Refusal) -> usize
-    ensures { λ r. ⌜ r ≡ placeOf refusal ⌝ }
-{
-    match refusal {
-        Refusal::UnknownCode => 0,
-        Refusal::WrongLength => 0,
-        Refusal::NoRoom => 0,
-        Refusal::NotABit(index) => index,
-        Refusal::Uncorrectable => 0,
     }
 }

@@ -4,67 +4,20 @@ use borrow.Author.Needs.{needs}
 use Rattle.bridge.proofs.words.refused.Statement.{statement}
 use Rattle.bridge.proofs.words.refused.Tie as tie
 
-enum-told : tie.Need-enum-told
-enum-told c = search needs
+number-requires : tie.Need-number-requires
+number-requires c κs = search needs
+
+cast-at : tie.Need-cast-at
+cast-at c = search needs
+
+place-requires : tie.Need-place-requires
+place-requires c κs = search needs
 
 at-requires : tie.Need-at-requires
 at-requires c κs = search needs
 
-enum-told-2 : tie.Need-enum-told-2
-enum-told-2 c = search needs
-
-at-requires-2 : tie.Need-at-requires-2
-at-requires-2 c κs = search needs
-
-enum-told-3 : tie.Need-enum-told-3
-enum-told-3 c = search needs
-
-at-requires-3 : tie.Need-at-requires-3
-at-requires-3 c κs = search needs
-
-enum-known-why : tie.Need-enum-known-why
-enum-known-why c = search needs
-
-at-requires-4 : tie.Need-at-requires-4
-at-requires-4 c κs = search needs
-
-enum-told-4 : tie.Need-enum-told-4
-enum-told-4 c = search needs
-
-at-requires-5 : tie.Need-at-requires-5
-at-requires-5 c κs = search needs
-
 returns : tie.Need-returns
-returns c = rw (c .before .enum-told .given .1) (c .at .ensures)
-
-returns-2 : tie.Need-returns-2
-returns-2 c = rw (c .before .enum-told2 .given .1) (c .at2 .ensures)
-
-returns-3 : tie.Need-returns-3
-returns-3 c = rw (c .before .enum-told3 .given .1) (c .at3 .ensures)
-
-returns-4 : tie.Need-returns-4
-returns-4 c = rw (c .before .before .why .given .1) (c .at4 .ensures)
-
-returns-5 : tie.Need-returns-5
-returns-5 c = rw (c .before .enum-told4 .given .1) (c .at5 .ensures)
+returns c = rw (← c .before .before .number .ensures, ← c .before .place .ensures) (c .at .ensures)
 
 pub refused-spec : {M : Type 1} → statement M
-refused-spec =
-    tie.close
-    (tie.spec
-    enum-told
-    at-requires
-    enum-told-2
-    at-requires-2
-    enum-told-3
-    at-requires-3
-    enum-known-why
-    at-requires-4
-    enum-told-4
-    at-requires-5
-    returns
-    returns-2
-    returns-3
-    returns-4
-    returns-5)
+refused-spec = tie.close (tie.spec number-requires cast-at place-requires at-requires returns)

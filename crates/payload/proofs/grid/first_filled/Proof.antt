@@ -49,28 +49,20 @@ abbrev μ-loop : tie.MeasureT-loop
 -- the levels that are looked at are those of index k
 seen : (c : tie.After-is-filled Inv-loop μ-loop) → c .is-filled .result ≡ full (c .before .before .before .before .before .args .i .now) (c .before .before .before .before .before .args .q .now) (c .before .before .before .before .loop .k)
 seen c =
-    let k = c .before .before .before .before .loop .k in
-    let s = c .before .before .before .before .before .args in
     rw (
-      toZ-ofZ w16 (getD (s .i .now) k (pos 0)) (record { sfits = c .before .before .is-filled-arg .given }),
-      toZ-ofZ w16 (getD (s .q .now) k (pos 0)) (record { sfits = c .before .is-filled-arg2 .given }),
+      toZ-ofZ w16 (c .before .before .level-at .result) (record { sfits = c .before .before .level-at .ok }) ∙ c .before .before .level-at .ensures,
+      toZ-ofZ w16 (c .before .level-at2 .result) (record { sfits = c .before .level-at2 .ok }) ∙ c .before .level-at2 .ensures,
     )
     at (c .is-filled .ensures)
 
 loop-holds : tie.Need-loop-holds Inv-loop μ-loop
 loop-holds c = (omega arith, zero-add _ ∙ ap (firstFilled _ _ 0) (sub-zero (c .args .n)))
 
-mul-is-filled : tie.Need-mul-is-filled Inv-loop μ-loop
-mul-is-filled c = search needs
+level-at-requires : tie.Need-level-at-requires Inv-loop μ-loop
+level-at-requires c κs = search needs
 
-shared-slice-copy-out-is-filled : tie.Need-shared-slice-copy-out-is-filled Inv-loop μ-loop
-shared-slice-copy-out-is-filled c = search needs
-
-mul-is-filled-2 : tie.Need-mul-is-filled-2 Inv-loop μ-loop
-mul-is-filled-2 c = search needs
-
-shared-slice-copy-out-is-filled-2 : tie.Need-shared-slice-copy-out-is-filled-2 Inv-loop μ-loop
-shared-slice-copy-out-is-filled-2 c = search needs
+level-at-requires-2 : tie.Need-level-at-requires-2 Inv-loop μ-loop
+level-at-requires-2 c κs = search needs
 
 is-filled-requires : tie.Need-is-filled-requires Inv-loop μ-loop
 is-filled-requires c κs = search needs
@@ -105,10 +97,8 @@ first-filled-spec =
     Inv-loop
     μ-loop
     loop-holds
-    mul-is-filled
-    shared-slice-copy-out-is-filled
-    mul-is-filled-2
-    shared-slice-copy-out-is-filled-2
+    level-at-requires
+    level-at-requires-2
     is-filled-requires
     returns
     add-k

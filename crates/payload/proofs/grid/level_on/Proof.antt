@@ -37,17 +37,12 @@ carrier-requires c κs = search needs
 enum-known-holds : tie.Need-enum-known-holds
 enum-known-holds c = search needs
 
-sub-result : tie.Need-sub-result
+sub-level-at : tie.Need-sub-level-at
 unfolding s
-sub-result c = numbered (c .before) .1
+sub-level-at c = numbered (c .before) .1
 
-mul-result : tie.Need-mul-result
-unfolding s
-mul-result c = omega (arith, numbered (c .before) .2)
-
-shared-slice-copy-out-result : tie.Need-shared-slice-copy-out-result
-unfolding s
-shared-slice-copy-out-result c = omega (arith, numbered (c .before))
+level-at-requires : tie.Need-level-at-requires
+level-at-requires c κs = search needs
 
 enum-told : tie.Need-enum-told
 enum-told c = search needs
@@ -57,7 +52,7 @@ unfolding s
 returns c =
     let levels = c .before .before .before .before .before .args .levels .now in
     let n = s (c .before .before) in
-    toZ-ofZ w16 (getD levels (n - 1) (pos 0)) (record { sfits = c .result .given })
+    toZ-ofZ w16 (c .level-at .result) (record { sfits = c .level-at .ok }) ∙ c .level-at .ensures
     ∙ before levels n (numbered (c .before .before) .1) ∙ ap (levelOn levels) (sym (held (c .before .before)))
 
 returns-2 : tie.Need-returns-2
@@ -69,9 +64,8 @@ level-on-spec =
     (tie.spec
     carrier-requires
     enum-known-holds
-    sub-result
-    mul-result
-    shared-slice-copy-out-result
+    sub-level-at
+    level-at-requires
     enum-told
     returns
     returns-2)

@@ -1,8 +1,9 @@
 -- `payload::grid::put_levels` meets its contract: what is written so far, then the levels of the other sub-carriers.
 -- Assumes nothing.
-use mathlib.Core.Path.{_≡_, refl, sym, _∙_}
+use mathlib.Core.Path.{_≡_, refl, sym, ap, _∙_}
 use mathlib.Core.List.{List, _++_, append-nil, append-assoc}
 use Prim.Native.Nat.{ℕ, suc, _+_, _-_, _≤_, _<_}
+use native.Mathlib.Nat.{sub-zero}
 use native.Mathlib.Omega.{arith}
 use native.Mathlib.Numerals.{add-one}
 use lib.IntN.{ℤ}
@@ -12,7 +13,7 @@ use mir.Syntax.{w16}
 use mir.Val.{toZ, ofZ}
 use mir.ValLaws.{toZ-ofZ}
 use Rattle.points.specs.Grid.{carrierAt}
-use Rattle.payload.specs.Grids.{levelOn, levelsFrom, spread}
+use Rattle.payload.specs.Grids.{levelOn, levelsFrom}
 use borrow.Author.Needs.{needs}
 use Rattle.payload.proofs.grid.put_levels.Statement.{statement}
 use Rattle.payload.proofs.grid.put_levels.Tie as tie
@@ -32,20 +33,19 @@ done levels out n k l h =
     rw (m, take-all k out l) (sym (append-nil out))
 
 abbrev Inv-loop : tie.InvT-loop
-Inv-loop levels out₀ k₀ out k = (k ≤ 256) × (length out ≡ 256) × (take k out ++ levelsFrom levels k (256 - k) ≡ spread levels)
+Inv-loop levels out₀ k₀ out k = (k ≤ length out₀) × (length out ≡ length out₀) × (take k out ++ levelsFrom levels k (length out₀ - k) ≡ levelsFrom levels 0 (length out₀))
 
 abbrev μ-loop : tie.MeasureT-loop
-μ-loop levels out₀ k₀ out k = 256 - k
+μ-loop levels out₀ k₀ out k = length out₀ - k
 
 loop-holds : tie.Need-loop-holds Inv-loop μ-loop
-unfolding spread
-loop-holds c = (omega arith, c .pre .1, refl)
+loop-holds c = (omega arith, refl, ap (levelsFrom _ 0) (sub-zero _))
 
 level-on-requires : tie.Need-level-on-requires Inv-loop μ-loop
 level-on-requires c κs = search needs
 
-mul-t6 : tie.Need-mul-t6 Inv-loop μ-loop
-mul-t6 c = search needs
+mul-t4 : tie.Need-mul-t4 Inv-loop μ-loop
+mul-t4 c = search needs
 
 slice-set-from-out : tie.Need-slice-set-from-out Inv-loop μ-loop
 slice-set-from-out c = search needs
@@ -61,7 +61,7 @@ loop-again c =
     let l = c .before .before .loop in
     let levels = c .before .before .before .args .levels .now in
     let v : toZ w16 (ofZ w16 (c .level-on .result)) ≡ levelOn levels (carrierAt (l .k)) = toZ-ofZ w16 _ (record { sfits = c .level-on .ok }) ∙ c .level-on .ensures in
-    (omega arith, simp length-set (l .inv .1), rw v (turn levels (l .out) 256 (l .k) (omega arith) (omega arith)) ∙ l .inv .2)
+    (omega arith, simp length-set (l .inv .1), rw v (turn levels (l .out) (length (c .before .before .before .args .out .now)) (l .k) (omega arith) (omega arith)) ∙ l .inv .2)
 
 same-length : tie.Need-same-length Inv-loop μ-loop
 same-length c = search needs
@@ -69,7 +69,7 @@ same-length c = search needs
 returns : tie.Need-returns Inv-loop μ-loop
 returns c =
     let l = c .before .loop in
-    done (c .before .before .args .levels .now) (l .out) 256 (l .k) (omega arith) (omega arith) ∙ l .inv .2
+    done (c .before .before .args .levels .now) (l .out) (length (c .before .before .args .out .now)) (l .k) (omega arith) (omega arith) ∙ l .inv .2
 
 pub put-levels-spec : {M : Type 1} → statement M
 put-levels-spec =
@@ -79,7 +79,7 @@ put-levels-spec =
     μ-loop
     loop-holds
     level-on-requires
-    mul-t6
+    mul-t4
     slice-set-from-out
     add-k
     loop-less

@@ -1,0 +1,76 @@
+-- `payload_a::check::check_of` meets its contract: what is left of the message is taken in after what the register has taken.
+-- Assumes nothing.
+use mathlib.Core.Path.{_≡_, refl, _∙_}
+use mathlib.Core.List.{List}
+use Prim.Native.Nat.{ℕ, _+_, _-_, _≤_, _<_}
+use native.Mathlib.Omega.{arith}
+use native.Mathlib.Numerals.{add-one}
+use lib.ListN.{length, getD, drop, drop-of-length-le}
+use lib.Seq.{drop-cons}
+use Rattle.bch.specs.Remainders.{step, remainder, remainderFrom}
+use Rattle.bch.proofs.Digits.{bits-at}
+use Rattle.payload_a.specs.Check.{checkPolynomial, checkOf}
+use borrow.Author.Needs.{needs}
+use Rattle.payload_a.proofs.check.check_of.Statement.{statement}
+use Rattle.payload_a.proofs.check.check_of.Tie as tie
+
+-- a turn: y is the register after the bit at i
+turn : (x y : ℕ) (m : List ℕ) (i : ℕ) → i < length m → y ≡ step 32 checkPolynomial x (getD m i 0)
+    → remainderFrom 32 checkPolynomial y (drop (i + 1) m) ≡ remainderFrom 32 checkPolynomial x (drop i m)
+unfolding remainderFrom
+turn x y m i h e = rw (e, add-one, drop-cons m i 0)
+
+done : (x : ℕ) (m : List ℕ) (i : ℕ) → length m ≤ i → x ≡ remainderFrom 32 checkPolynomial x (drop i m)
+unfolding remainderFrom
+done x m i h = rw (drop-of-length-le m h)
+
+abbrev Inv-loop : tie.InvT-loop
+Inv-loop message register₀ i₀ register i =
+    (i ≤ length message) × (remainderFrom 32 checkPolynomial register (drop i message) ≡ checkOf message)
+
+abbrev μ-loop : tie.MeasureT-loop
+μ-loop message register₀ i₀ register i = length message - i
+
+loop-holds : tie.Need-loop-holds Inv-loop μ-loop
+unfolding checkOf remainder
+loop-holds c = (omega arith, refl)
+
+shared-slice-read-take-in : tie.Need-shared-slice-read-take-in Inv-loop μ-loop
+shared-slice-read-take-in c = search needs
+
+take-in-requires : tie.Need-take-in-requires Inv-loop μ-loop
+take-in-requires c κs =
+    let s = c .before .before .before .before in
+    bits-at (s .args .message .now) (s .pre) (c .before .before .loop .i)
+
+add-i : tie.Need-add-i Inv-loop μ-loop
+add-i c = search needs
+
+loop-less : tie.Need-loop-less Inv-loop μ-loop
+loop-less c = search needs
+
+loop-again : tie.Need-loop-again Inv-loop μ-loop
+loop-again c =
+    let l = c .before .before .before .loop in
+    let m = c .before .before .before .before .before .args .message .now in
+    (omega arith, turn (l .register) _ m (l .i) (omega arith) (c .take-in .ensures) ∙ l .inv .1)
+
+returns : tie.Need-returns Inv-loop μ-loop
+returns c =
+    let l = c .before .loop in
+    let m = c .before .before .before .args .message .now in
+    done (l .register) m (l .i) (omega arith) ∙ l .inv .1
+
+pub check-of-spec : {M : Type 1} → statement M
+check-of-spec =
+    tie.close
+    (tie.spec
+    Inv-loop
+    μ-loop
+    loop-holds
+    shared-slice-read-take-in
+    take-in-requires
+    add-i
+    loop-less
+    loop-again
+    returns)

@@ -1,0 +1,13 @@
+-- The laws of the crate, in the order in which they rest on each other.
+pub mod Schemes
+pub mod Mapping
+pub mod Plans
+pub mod Blocks
+pub mod Blockwise
+pub mod Taking
+pub mod Sending
+pub mod VerdictsB
+pub mod Receiving
+pub mod UniqueB
+pub mod OnceB
+pub mod TripsB

@@ -1,0 +1,105 @@
+// What the checks 1, 2, 5 and 6 find out about a frame of Payload B.
+ghost use mathlib.Core.Path.{_≡_};
+ghost use Prim.Native.Nat.{min};
+ghost use lib.ListN.{length};
+ghost use Rattle.payload_b.specs.CodedB.{blockBytes, blockBits, sumOf, symbolsFor};
+ghost use Rattle.payload_b.specs.PromiseB.{badEntry};
+ghost use Rattle.payload_b.specs.HeldB.{Scheme, Judged};
+use payload::Refusal;
+
+// The bytes of a block.
+pub(crate) fn block_bytes(mode: u8) -> usize
+    ensures { λ r. ⌜ r ≡ blockBytes mode ⌝ }
+{
+    if mode == 0 {
+        return 1;
+    }
+    if mode == 1 { 59 } else { 54 }
+}
+
+// The bits sent for a block.
+pub(crate) fn block_bits(mode: u8) -> usize
+    ensures { λ r. ⌜ r ≡ blockBits mode ⌝ }
+{
+    if mode == 0 {
+        return 8;
+    }
+    if mode == 1 { 508 } else { 504 }
+}
+
+// The bits of an OFDM symbol.
+pub(crate) fn sum(scheme: &[u8]) -> usize
+    requires { ⌜ length (now scheme) ≡ 210 ⌝ }
+    ensures { λ r. ⌜ r ≡ sumOf (now (scheme .entry)) ⌝ }
+{
+    let mut n: usize = 0;
+    let mut i: usize = 0;
+    while i < scheme.len() {
+        n += scheme[i] as usize;
+        i += 1;
+    }
+    n
+}
+
+// The first entry outside 2 to 10; the length where there is none.
+fn bad_entry(scheme: &[u8]) -> usize
+    ensures { λ r. ⌜ r ≡ badEntry (now (scheme .entry)) ⌝ }
+{
+    let mut i: usize = 0;
+    while i < scheme.len() {
+        if scheme[i] < 2 {
+            return i;
+        }
+        if 10 < scheme[i] {
+            return i;
+        }
+        i += 1;
+    }
+    i
+}
+
+// The OFDM symbols needed, or 257 where more than 256 are: no scheme has room for more than 67,200 blocks.
+pub(crate) fn symbols(mode: u8, size: usize, scheme: &[u8]) -> usize
+    requires { ⌜ Scheme (now scheme) ⌝ }
+    ensures { λ r. ⌜ r ≡ min (symbolsFor mode size (now (scheme .entry))) 257 ⌝ }
+{
+    let blocks = size / block_bytes(mode);
+    if 67200 < blocks {
+        return 257;
+    }
+    let bits = sum(scheme);
+    let m = (block_bits(mode) * blocks + (bits - 1)) / bits;
+    if m < 257 { m } else { 257 }
+}
+
+// Whether the checks pass.
+pub enum Verdict {
+    Passes,
+    Fails(Refusal),
+}
+
+// The checks 1, 2, 5 and 6.
+pub(crate) fn judged(mode: u8, size: usize, scheme: &[u8]) -> Verdict
+    ensures { λ r. ⌜ Judged mode size (now (scheme .entry)) r ⌝ }
+{
+    if 2 < mode {
+        return Verdict::Fails(Refusal::UnknownMode);
+    }
+    if size == 0 {
+        return Verdict::Fails(Refusal::WrongLength);
+    }
+    if size % block_bytes(mode) != 0 {
+        return Verdict::Fails(Refusal::WrongLength);
+    }
+    if scheme.len() != 210 {
+        return Verdict::Fails(Refusal::BadScheme(210));
+    }
+    let bad = bad_entry(scheme);
+    if bad < 210 {
+        return Verdict::Fails(Refusal::BadScheme(bad));
+    }
+    if 256 < symbols(mode, size, scheme) {
+        return Verdict::Fails(Refusal::TooManySymbols);
+    }
+    Verdict::Passes
+}

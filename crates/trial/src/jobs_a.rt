@@ -1,0 +1,61 @@
+// Jobs 3 and 4: send and receive Payload A.
+use crate::answer;
+use crate::input;
+use crate::input::Byte;
+use crate::output;
+use payload_a::ReceivedA;
+
+// Reads the fields of job 3, mode, frame, I and Q, and makes the call. False ends the program.
+pub(crate) fn serve_send(frame: &mut [u8], i: &mut [i16], q: &mut [i16]) -> bool {
+    let Byte::Of(mode) = input::read_byte() else {
+        return false;
+    };
+    let given = input::read_list(frame);
+    if !given.whole {
+        return false;
+    }
+    let lent = input::read_points(i, q);
+    if !lent.whole {
+        return false;
+    }
+    let n = given.count;
+    let m = lent.i;
+    let l = lent.q;
+    send(mode, &frame[0..n], &mut i[0..m], &mut q[0..l])
+}
+
+// Reads the fields of job 4, mode, I, Q and area, and makes the call. False ends the program.
+pub(crate) fn serve_receive(i: &mut [i16], q: &mut [i16], area: &mut [u8]) -> bool {
+    let Byte::Of(mode) = input::read_byte() else {
+        return false;
+    };
+    let given = input::read_points(i, q);
+    if !given.whole {
+        return false;
+    }
+    let lent = input::read_list(area);
+    if !lent.whole {
+        return false;
+    }
+    let m = given.i;
+    let l = given.q;
+    let n = lent.count;
+    receive(mode, &i[0..m], &q[0..l], &mut area[0..n])
+}
+
+// The call of job 3, and its response.
+fn send(mode: u8, frame: &[u8], i: &mut [i16], q: &mut [i16]) -> bool {
+    output::write_sent(payload_a::send_a(mode, frame, i, q), i, q)
+}
+
+// The call of job 4, and its response.
+fn receive(mode: u8, i: &[i16], q: &[i16], area: &mut [u8]) -> bool {
+    write_received(payload_a::receive_a(mode, i, q, area)) && output::write_list(area)
+}
+
+// How the response to job 4 begins.
+fn write_received(answer: ReceivedA) -> bool {
+    output::write_answer(answer::number_a(answer), answer::place_a(answer))
+        && output::write_count(answer::mended_a(answer))
+        && output::write_count(answer::protected_a(answer))
+}

@@ -1,0 +1,103 @@
+//! The rows of Payload B: all QPSK and all 1024QAM, over more and more OFDM symbols, so that the time for each is seen.
+
+use crate::rows::{Answer, Calls, Input, Row, GROUP};
+use crate::{ours, theirs};
+use second::rng::Rng;
+use second::{bch, bits, grid, payload_b, scrambler};
+
+/// OFDM symbols in each row, over all its calls.
+pub const SYMBOLS: usize = 1024;
+
+/// The schemes: their names, and the bits of every point.
+const SCHEMES: [(&str, u8); 2] = [("QPSK", 2), ("1024QAM", 10)];
+
+const SEND_B: Calls = (ours::send_b, theirs::send_b);
+const RECEIVE_B: Calls = (ours::receive_b, theirs::receive_b);
+
+/// All rows of Payload B, each with the OFDM symbols of a call.
+pub fn all() -> impl Iterator<Item = (usize, Row)> {
+    [2, 1, 0].into_iter().flat_map(|mode| SCHEMES.into_iter().flat_map(move |scheme| of_scheme(mode, scheme)))
+}
+
+/// Receiving over 1, 16 and 256 OFDM symbols, clean and, if coded, with t hits in each block; and sending over 256, if
+/// coded. Where one OFDM symbol holds no block, two are the least.
+fn of_scheme(mode: u8, scheme: (&'static str, u8)) -> impl Iterator<Item = (usize, Row)> {
+    let longest = move |symbols: usize| Longest { mode, scheme, symbols };
+    let least = if longest(1).blocks() > 0 { 1 } else { 2 };
+    let received = move |hits: usize| [least, 16, 256].map(|symbols| (symbols, longest(symbols).received(hits)));
+    let code = bch::code(mode);
+    let hit = code.into_iter().flat_map(move |code| received(code.t));
+    received(0).into_iter().chain(hit).chain(code.map(|_| (256, longest(256).sent())))
+}
+
+/// The longest frame that so many OFDM symbols hold.
+#[derive(Clone, Copy)]
+struct Longest {
+    mode: u8,
+    scheme: (&'static str, u8),
+    symbols: usize,
+}
+
+impl Longest {
+    /// Bytes and bits of a block; uncoded, each byte is one.
+    fn block(self) -> (usize, usize) {
+        bch::code(self.mode).map_or((1, 8), |code| (code.k / 8, code.n))
+    }
+
+    fn blocks(self) -> usize {
+        self.symbols * grid::AVAILABLE * self.scheme.1 as usize / self.block().1
+    }
+
+    fn bytes(self) -> usize {
+        self.blocks() * self.block().0
+    }
+
+    fn entries(self) -> Vec<u8> {
+        vec![self.scheme.1; grid::AVAILABLE]
+    }
+
+    /// Sending it.
+    fn sent(self) -> Row {
+        self.row("send", "", SEND_B, 0, |rng| Input { bytes: rng.bytes(self.bytes()), ..self.input() })
+    }
+
+    /// Receiving it, each block with so many hits: all are mended.
+    fn received(self, hits: usize) -> Row {
+        let hit = if hits > 0 { format!(", {hits} hits in each block") } else { ", clean".to_string() };
+        self.row("receive", &hit, RECEIVE_B, self.blocks() * hits, |rng| self.points(rng, hits))
+    }
+
+    fn row(self, job: &str, hit: &str, (ours, theirs): Calls, mended: usize, input: impl Fn(&mut Rng) -> Input) -> Row {
+        let mut rng = Rng::new(5);
+        let plural = if self.symbols > 1 { "s" } else { "" };
+        Row {
+            of: format!("Payload B, mode {}, {}", self.mode, self.scheme.0),
+            name: format!("{job}, {} symbol{plural}, {} bytes{hit}", self.symbols, self.bytes()),
+            ours,
+            theirs,
+            inputs: (0..SYMBOLS / self.symbols).map(|_| input(&mut rng)).collect(),
+            group: (GROUP / self.symbols).max(1),
+            told: Some(Answer { number: 0, mended: mended as u64, protected: 0, place: 0 }),
+        }
+    }
+
+    fn input(self) -> Input {
+        Input { number: self.mode, scheme: self.entries(), ..Input::default() }
+    }
+
+    /// The points of such a frame, with so many bits of each block flipped on the way.
+    fn points(self, rng: &mut Rng, hits: usize) -> Input {
+        let (size, scheme) = (self.bytes(), self.entries());
+        let plan = payload_b::plan(self.mode, size as u64, &scheme).expect("whole blocks, and few enough");
+        assert_eq!(plan.symbols, self.symbols);
+        let mut sent = plan.coded(&scrambler::scrambled(&bits::of_bytes(&rng.bytes(size))));
+        for block in sent.chunks_mut(self.block().1) {
+            rng.distinct(hits, block.len()).into_iter().for_each(|place| block[place] ^= 1);
+        }
+        sent.resize(plan.symbols * plan.symbol_bits, 0);
+        let elements = plan.symbols * grid::CARRIERS;
+        let (mut i, mut q) = (vec![0; elements], vec![0; elements]);
+        grid::write(&payload_b::mapped(&sent, &scheme), &mut i, &mut q);
+        Input { size, i, q, ..self.input() }
+    }
+}
