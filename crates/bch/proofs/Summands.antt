@@ -59,30 +59,20 @@ module _ (e d : ℕ) (old : List ℕ) where
   pub begun-none : Begun old 0
   begun-none = record { long = refl; done = λ k h. absurd (omega arith); kept = λ k h. refl }
 
-  -- p is the term of the entry i, and n comes after i
-  pub begun-more : {new : List ℕ} {i p : ℕ} → Begun new i → i < length new → (n : ℕ) → p ≡ power (e + d * i) → n ≡ suc i
-      → Begun (plusAt new i p) n
-  begun-more {new} {i} {p} b room n is next = record {
+  -- p, the term of the entry i, has been added there, and n comes after i
+  pub begun-more : {new new' : List ℕ} {i p : ℕ} → Begun new i → i < length old → new' ≡ plusAt new i p → p ≡ power (e + d * i) → (n : ℕ) → n ≡ suc i
+      → Begun new' n
+  begun-more {new} {new'} {i} {p} b low there is n next = rw there (record {
     long = length-set new i _ ∙ b .long;
     done = λ k h. done-at k h (decLt k i);
     kept = λ k h. getD-set-other new i k _ 0 (omega arith) ∙ b .kept k (omega arith);
-  }
+  })
     where
       done-at : (k : ℕ) → k < n → Dec (k < i) → getD (plusAt new i p) k 0 ≡ bitXor (getD old k 0) (power (e + d * k))
       done-at k h (yes l) = getD-set-other new i k _ 0 (omega arith) ∙ b .done k l
       done-at k h (no l) =
           let same : k ≡ i = omega arith in
-          rw same (getD-set-same new i _ 0 room ∙ ap₂ bitXor (b .kept i (omega arith)) is)
-
-  -- four at a turn
-  pub begun-four : {new : List ℕ} {i p q r s : ℕ} → Begun new i → i + 3 < length new
-      → p ≡ power (e + d * i) → q ≡ power (e + d * (i + 1)) → r ≡ power (e + d * (i + 2)) → s ≡ power (e + d * (i + 3))
-      → Begun (plusAt (plusAt (plusAt (plusAt new i p) (i + 1) q) (i + 2) r) (i + 3) s) (i + 4)
-  begun-four {i = i} b room hp hq hr hs =
-      let b1 = begun-more b (omega arith) (i + 1) hp (omega arith) in
-      let b2 = begun-more b1 (omega arith) (i + 2) hq (omega arith) in
-      let b3 = begun-more b2 (omega arith) (i + 3) hr (omega arith) in
-      begun-more b3 (omega arith) (i + 4) hs (omega arith)
+          rw same (getD-set-same new i _ 0 (omega (arith, b .long)) ∙ ap₂ bitXor (b .kept i (omega arith)) is)
 
   pub begun-all : {new : List ℕ} {n : ℕ} → Begun new n → length old ≤ n → Added e d old new
   unfolding series

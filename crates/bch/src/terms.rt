@@ -1,6 +1,8 @@
 // Terms of a polynomial, added up at consecutive powers of a.
 ghost use mathlib.Core.Path.{_≡_};
 ghost use Prim.Native.Nat.{_<_, _%_};
+ghost use lib.Bits.{bitXor};
+ghost use lib.ListN.{length, getD, set};
 ghost use Rattle.field.specs.Tables.{powerTable};
 ghost use Rattle.bch.specs.Locators.{Added};
 
@@ -10,6 +12,14 @@ fn reduced(e: usize) -> usize
     ensures { λ r. ⌜ r ≡ e % 511 ⌝ }
 {
     if e < 511 { e } else { e - 511 }
+}
+
+// Adds an entry of the table of powers to sums[i].
+fn add_at(powers: &[u16; 1022], at: usize, sums: &mut [u16], i: usize)
+    requires { ⌜ (at < 1022) × (i < length (now sums)) ⌝ }
+    ensures { λ _. ⌜ now (sums .exit) ≡ set (now (sums .entry)) i (bitXor (getD (now (sums .entry)) i 0) (getD (now (powers .entry)) at 0)) ⌝ }
+{
+    sums[i] = sums[i] ^ powers[at];
 }
 
 // Adds a^(e + d i) to each sums[i], four a turn.
@@ -23,15 +33,15 @@ pub(crate) fn add(powers: &[u16; 1022], e: usize, d: usize, sums: &mut [u16])
     let mut at = e;
     let mut i: usize = 0;
     while i + 3 < sums.len() {
-        sums[i] = sums[i] ^ powers[at];
-        sums[i + 1] = sums[i + 1] ^ powers[at + d];
-        sums[i + 2] = sums[i + 2] ^ powers[at + two];
-        sums[i + 3] = sums[i + 3] ^ powers[at + three];
+        add_at(powers, at, sums, i);
+        add_at(powers, at + d, sums, i + 1);
+        add_at(powers, at + two, sums, i + 2);
+        add_at(powers, at + three, sums, i + 3);
         at = reduced(at + four);
         i += 4;
     }
     while i < sums.len() {
-        sums[i] = sums[i] ^ powers[at];
+        add_at(powers, at, sums, i);
         at = reduced(at + d);
         i += 1;
     }

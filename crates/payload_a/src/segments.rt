@@ -1,6 +1,6 @@
 // Protected fields and segments, clause 7.4.5 and Table 6.
 ghost use mathlib.Core.Path.{_≡_};
-ghost use mathlib.Core.List.{[], _∷_, _++_};
+ghost use mathlib.Core.List.{[], _++_};
 ghost use Prim.Native.Nat.{_+_, _≤_};
 ghost use lib.ListN.{length, take, drop, getD};
 ghost use Rattle.bch.specs.Words.{differ};
@@ -63,24 +63,6 @@ pub(crate) fn flat(rows: [[u8; 392]; 2]) -> [u8; 784]
     put(&rows[0], 0, &mut out);
     put(&rows[1], 392, &mut out);
     out
-}
-
-// A row of 392 bits.
-fn row(bits: &[u8]) -> [u8; 392]
-    requires { ⌜ length (now bits) ≡ 392 ⌝ }
-    ensures { λ r. ⌜ r ≡ now (bits .entry) ⌝ }
-{
-    let mut out = [0u8; 392];
-    put(bits, 0, &mut out);
-    out
-}
-
-// The two rows of 784 bits.
-pub(crate) fn rows(bits: &[u8]) -> [[u8; 392]; 2]
-    requires { ⌜ length (now bits) ≡ 784 ⌝ }
-    ensures { λ r. ⌜ r ≡ take 392 (now (bits .entry)) ∷ drop 392 (now (bits .entry)) ∷ [] ⌝ }
-{
-    [row(&bits[0..392]), row(&bits[392..784])]
 }
 
 // The number of places where a protected field as received differs.

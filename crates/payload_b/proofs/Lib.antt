@@ -4,7 +4,9 @@ pub mod Mapping
 pub mod Plans
 pub mod Blocks
 pub mod Blockwise
+pub mod Standing
 pub mod Taking
+pub mod Pushing
 pub mod Sending
 pub mod VerdictsB
 pub mod Receiving

@@ -6,9 +6,9 @@ use Prim.Native.Nat.{ℕ, _+_, _-_, _*_, _%_, _≤_, _<_}
 use native.Mathlib.Nat.{mod-lt}
 use native.Mathlib.Omega.{arith}
 use lib.Dec.{lit<}
-use lib.ListN.{length, length-set}
+use lib.ListN.{length}
 use Rattle.field.specs.Field.{power}
-use Rattle.bch.proofs.Summands.{Begun, begun-none, begun-more, begun-four, begun-all, entry-here, entry-on, power-on-mod}
+use Rattle.bch.proofs.Summands.{Begun, begun-none, begun-more, begun-all, entry-here, entry-on, power-on-mod}
 use borrow.Author.Needs.{needs}
 use Rattle.bch.proofs.terms.add.Statement.{statement}
 use Rattle.bch.proofs.terms.add.Tie as tie
@@ -45,104 +45,35 @@ loop-holds c =
 add-loop : tie.Need-add-loop Inv-loop μ-loop Inv-loop2 μ-loop2
 add-loop c = search needs
 
-mul-sums : tie.Need-mul-sums Inv-loop μ-loop Inv-loop2 μ-loop2
-mul-sums c = search needs
+add-at-requires : tie.Need-add-at-requires Inv-loop μ-loop Inv-loop2 μ-loop2
+add-at-requires c κs = search needs
 
-slice-read-sums : tie.Need-slice-read-sums Inv-loop μ-loop Inv-loop2 μ-loop2
-slice-read-sums c = search needs
+add-add-at : tie.Need-add-add-at Inv-loop μ-loop Inv-loop2 μ-loop2
+add-add-at c = search needs
 
-mul-sums-2 : tie.Need-mul-sums-2 Inv-loop μ-loop Inv-loop2 μ-loop2
-mul-sums-2 c = search needs
+add-add-at-2 : tie.Need-add-add-at-2 Inv-loop μ-loop Inv-loop2 μ-loop2
+add-add-at-2 c = search needs
 
-element-copy-out-sums : tie.Need-element-copy-out-sums Inv-loop μ-loop Inv-loop2 μ-loop2
-element-copy-out-sums c = search needs
+add-at-requires-2 : tie.Need-add-at-requires-2 Inv-loop μ-loop Inv-loop2 μ-loop2
+add-at-requires-2 c κs = search needs
 
-mul-sums-3 : tie.Need-mul-sums-3 Inv-loop μ-loop Inv-loop2 μ-loop2
-mul-sums-3 c = search needs
+add-add-at-3 : tie.Need-add-add-at-3 Inv-loop μ-loop Inv-loop2 μ-loop2
+add-add-at-3 c = search needs
 
-slice-write-sums : tie.Need-slice-write-sums Inv-loop μ-loop Inv-loop2 μ-loop2
-slice-write-sums c = search needs
+add-add-at-4 : tie.Need-add-add-at-4 Inv-loop μ-loop Inv-loop2 μ-loop2
+add-add-at-4 c = search needs
 
-add-sums : tie.Need-add-sums Inv-loop μ-loop Inv-loop2 μ-loop2
-add-sums c = search needs
+add-at-requires-3 : tie.Need-add-at-requires-3 Inv-loop μ-loop Inv-loop2 μ-loop2
+add-at-requires-3 c κs = search needs
 
-mul-sums-4 : tie.Need-mul-sums-4 Inv-loop μ-loop Inv-loop2 μ-loop2
-mul-sums-4 c = search needs
+add-add-at-5 : tie.Need-add-add-at-5 Inv-loop μ-loop Inv-loop2 μ-loop2
+add-add-at-5 c = search needs
 
-slice-read-sums-2 : tie.Need-slice-read-sums-2 Inv-loop μ-loop Inv-loop2 μ-loop2
-slice-read-sums-2 c = simp length-set (omega arith)
+add-add-at-6 : tie.Need-add-add-at-6 Inv-loop μ-loop Inv-loop2 μ-loop2
+add-add-at-6 c = search needs
 
-add-sums-2 : tie.Need-add-sums-2 Inv-loop μ-loop Inv-loop2 μ-loop2
-add-sums-2 c = search needs
-
-mul-sums-5 : tie.Need-mul-sums-5 Inv-loop μ-loop Inv-loop2 μ-loop2
-mul-sums-5 c = search needs
-
-element-copy-out-sums-2 : tie.Need-element-copy-out-sums-2 Inv-loop μ-loop Inv-loop2 μ-loop2
-element-copy-out-sums-2 c = search needs
-
-add-sums-3 : tie.Need-add-sums-3 Inv-loop μ-loop Inv-loop2 μ-loop2
-add-sums-3 c = search needs
-
-mul-sums-6 : tie.Need-mul-sums-6 Inv-loop μ-loop Inv-loop2 μ-loop2
-mul-sums-6 c = search needs
-
-slice-write-sums-2 : tie.Need-slice-write-sums-2 Inv-loop μ-loop Inv-loop2 μ-loop2
-slice-write-sums-2 c = simp length-set (omega arith)
-
-add-sums-4 : tie.Need-add-sums-4 Inv-loop μ-loop Inv-loop2 μ-loop2
-add-sums-4 c = search needs
-
-mul-sums-7 : tie.Need-mul-sums-7 Inv-loop μ-loop Inv-loop2 μ-loop2
-mul-sums-7 c = search needs
-
-slice-read-sums-3 : tie.Need-slice-read-sums-3 Inv-loop μ-loop Inv-loop2 μ-loop2
-slice-read-sums-3 c = simp length-set (omega arith)
-
-add-sums-5 : tie.Need-add-sums-5 Inv-loop μ-loop Inv-loop2 μ-loop2
-add-sums-5 c = search needs
-
-mul-sums-8 : tie.Need-mul-sums-8 Inv-loop μ-loop Inv-loop2 μ-loop2
-mul-sums-8 c = search needs
-
-element-copy-out-sums-3 : tie.Need-element-copy-out-sums-3 Inv-loop μ-loop Inv-loop2 μ-loop2
-element-copy-out-sums-3 c = search needs
-
-add-sums-6 : tie.Need-add-sums-6 Inv-loop μ-loop Inv-loop2 μ-loop2
-add-sums-6 c = search needs
-
-mul-sums-9 : tie.Need-mul-sums-9 Inv-loop μ-loop Inv-loop2 μ-loop2
-mul-sums-9 c = search needs
-
-slice-write-sums-3 : tie.Need-slice-write-sums-3 Inv-loop μ-loop Inv-loop2 μ-loop2
-slice-write-sums-3 c = simp length-set (omega arith)
-
-add-sums-7 : tie.Need-add-sums-7 Inv-loop μ-loop Inv-loop2 μ-loop2
-add-sums-7 c = search needs
-
-mul-sums-10 : tie.Need-mul-sums-10 Inv-loop μ-loop Inv-loop2 μ-loop2
-mul-sums-10 c = search needs
-
-slice-read-sums-4 : tie.Need-slice-read-sums-4 Inv-loop μ-loop Inv-loop2 μ-loop2
-slice-read-sums-4 c = simp length-set (omega arith)
-
-add-sums-8 : tie.Need-add-sums-8 Inv-loop μ-loop Inv-loop2 μ-loop2
-add-sums-8 c = search needs
-
-mul-sums-11 : tie.Need-mul-sums-11 Inv-loop μ-loop Inv-loop2 μ-loop2
-mul-sums-11 c = search needs
-
-element-copy-out-sums-4 : tie.Need-element-copy-out-sums-4 Inv-loop μ-loop Inv-loop2 μ-loop2
-element-copy-out-sums-4 c = search needs
-
-add-sums-9 : tie.Need-add-sums-9 Inv-loop μ-loop Inv-loop2 μ-loop2
-add-sums-9 c = search needs
-
-mul-sums-12 : tie.Need-mul-sums-12 Inv-loop μ-loop Inv-loop2 μ-loop2
-mul-sums-12 c = search needs
-
-slice-write-sums-4 : tie.Need-slice-write-sums-4 Inv-loop μ-loop Inv-loop2 μ-loop2
-slice-write-sums-4 c = simp length-set (omega arith)
+add-at-requires-4 : tie.Need-add-at-requires-4 Inv-loop μ-loop Inv-loop2 μ-loop2
+add-at-requires-4 c κs = search needs
 
 add-reduced : tie.Need-add-reduced Inv-loop μ-loop Inv-loop2 μ-loop2
 add-reduced c = search needs
@@ -158,8 +89,12 @@ loop-less c = omega arith
 
 loop-again : tie.Need-loop-again Inv-loop μ-loop Inv-loop2 μ-loop2
 loop-again c =
-    let start = c .before .before .before .before .before .before .before .before .before .before .before .before in
-    let loop = c .before .before .before .before .before .before .before .before .before .before .loop in
+    let fourth = c .before .before .before in
+    let third = fourth .before .before .before .before in
+    let second = third .before .before .before .before in
+    let first = second .before .before .before .before in
+    let loop = first .before .before .before .loop in
+    let start = first .before .before .before .before .before in
     let e = start .args .e in
     let d = start .args .d in
     let i = loop .i in
@@ -168,33 +103,19 @@ loop-again c =
     let table = start .pre .0 in
     let low = loop .inv .1 in
     let one : d ≡ d * 1 % 511 = omega arith in
-    let on = entry-on e d i at is table low in (
-      omega arith,
-      rw (c .reduced .ensures) (mod-lt _ (lit< tt)),
-      rw (c .reduced .ensures) (power-on-mod e d i at is _ 4 refl),
-      begun-four e d _ (loop .inv .3) (omega arith) (entry-here e d i at is table low) (on d 1 one) (on _ 2 refl) (on _ 3 refl),
-    )
+    let on = entry-on e d i at is table low in
+    let old = start .args .sums .now in
+    let b1 = begun-more e d old (loop .inv .3) (omega arith) (first .add-at .ensures) (entry-here e d i at is table low) (i + 1) (omega arith) in
+    let b2 = begun-more e d old b1 (omega arith) (second .add-at2 .ensures) (on d 1 one) (i + 2) (omega arith) in
+    let b3 = begun-more e d old b2 (omega arith) (third .add-at3 .ensures) (on _ 2 refl) (i + 3) (omega arith) in
+    let b4 = begun-more e d old b3 (omega arith) (fourth .add-at4 .ensures) (on _ 3 refl) (i + 4) (omega arith) in
+    (omega arith, rw (c .reduced .ensures) (mod-lt _ (lit< tt)), rw (c .reduced .ensures) (power-on-mod e d i at is _ 4 refl), b4)
 
 loop2-holds : tie.Need-loop2-holds Inv-loop μ-loop Inv-loop2 μ-loop2
 loop2-holds c = search needs
 
-mul-sums-13 : tie.Need-mul-sums-13 Inv-loop μ-loop Inv-loop2 μ-loop2
-mul-sums-13 c = search needs
-
-slice-read-sums-5 : tie.Need-slice-read-sums-5 Inv-loop μ-loop Inv-loop2 μ-loop2
-slice-read-sums-5 c = search needs
-
-mul-sums-14 : tie.Need-mul-sums-14 Inv-loop μ-loop Inv-loop2 μ-loop2
-mul-sums-14 c = search needs
-
-element-copy-out-sums-5 : tie.Need-element-copy-out-sums-5 Inv-loop μ-loop Inv-loop2 μ-loop2
-element-copy-out-sums-5 c = search needs
-
-mul-sums-15 : tie.Need-mul-sums-15 Inv-loop μ-loop Inv-loop2 μ-loop2
-mul-sums-15 c = search needs
-
-slice-write-sums-5 : tie.Need-slice-write-sums-5 Inv-loop μ-loop Inv-loop2 μ-loop2
-slice-write-sums-5 c = search needs
+add-at-requires-5 : tie.Need-add-at-requires-5 Inv-loop μ-loop Inv-loop2 μ-loop2
+add-at-requires-5 c κs = search needs
 
 add-reduced-2 : tie.Need-add-reduced-2 Inv-loop μ-loop Inv-loop2 μ-loop2
 add-reduced-2 c = search needs
@@ -210,19 +131,22 @@ loop2-less c = omega arith
 
 loop2-again : tie.Need-loop2-again Inv-loop μ-loop Inv-loop2 μ-loop2
 loop2-again c =
-    let start = c .before .before .before .before .before .before .before .before in
-    let loop = c .before .before .before .before .loop2 in
+    let added = c .before .before .before in
+    let loop = added .before .before .before .loop2 in
+    let start = added .before .before .before .before .before .before .before in
     let e = start .args .e in
     let d = start .args .d in
     let i = loop .i in
     let at = loop .at in
     let is = loop .inv .3 in
-    let one : d ≡ d * 1 % 511 = omega arith in (
+    let one : d ≡ d * 1 % 511 = omega arith in
+    let there = added .add-at5 .ensures in
+    let here = entry-here e d i at is (start .pre .0) (loop .inv .1) in (
       omega arith,
       rw (c .reduced2 .ensures) (mod-lt _ (lit< tt)),
-      simp length-set (omega arith),
+      omega arith,
       rw (c .reduced2 .ensures) (power-on-mod e d i at is d 1 one),
-      λ old b. begun-more e d old (loop .inv .4 old b) (omega arith) (i + 1) (entry-here e d i at is (start .pre .0) (loop .inv .1)) (omega arith),
+      λ old b. begun-more e d old (loop .inv .4 old b) (omega (arith, b .long)) there here (i + 1) (omega arith),
     )
 
 same-length : tie.Need-same-length Inv-loop μ-loop Inv-loop2 μ-loop2
@@ -246,51 +170,23 @@ add-spec =
     mul-four
     loop-holds
     add-loop
-    mul-sums
-    slice-read-sums
-    mul-sums-2
-    element-copy-out-sums
-    mul-sums-3
-    slice-write-sums
-    add-sums
-    mul-sums-4
-    slice-read-sums-2
-    add-sums-2
-    mul-sums-5
-    element-copy-out-sums-2
-    add-sums-3
-    mul-sums-6
-    slice-write-sums-2
-    add-sums-4
-    mul-sums-7
-    slice-read-sums-3
-    add-sums-5
-    mul-sums-8
-    element-copy-out-sums-3
-    add-sums-6
-    mul-sums-9
-    slice-write-sums-3
-    add-sums-7
-    mul-sums-10
-    slice-read-sums-4
-    add-sums-8
-    mul-sums-11
-    element-copy-out-sums-4
-    add-sums-9
-    mul-sums-12
-    slice-write-sums-4
+    add-at-requires
+    add-add-at
+    add-add-at-2
+    add-at-requires-2
+    add-add-at-3
+    add-add-at-4
+    add-at-requires-3
+    add-add-at-5
+    add-add-at-6
+    add-at-requires-4
     add-reduced
     reduced-requires
     add-i
     loop-less
     loop-again
     loop2-holds
-    mul-sums-13
-    slice-read-sums-5
-    mul-sums-14
-    element-copy-out-sums-5
-    mul-sums-15
-    slice-write-sums-5
+    add-at-requires-5
     add-reduced-2
     reduced-requires-2
     add-i-2

@@ -13,7 +13,7 @@ use Rattle.bch.proofs.Mendings.{bits-append}
 use Rattle.payload_b.specs.CodedB.{sumOf}
 use Rattle.payload_b.proofs.Schemes.{sum-most}
 use Rattle.payload.proofs.Copies.{part-long, part-written, bits-zeros}
-use Rattle.payload_b.proofs.Sending.{room-last, flushed-whole, flushed-part}
+use Rattle.payload_b.proofs.Pushing.{room-last, flushed-whole, flushed-part}
 use borrow.Author.Needs.{needs}
 use Rattle.payload_b.proofs.sender.flush.Statement.{statement}
 use Rattle.payload_b.proofs.sender.flush.Tie as tie

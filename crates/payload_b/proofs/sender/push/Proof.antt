@@ -6,7 +6,7 @@ use native.Mathlib.Omega.{arith}
 use lib.ListN.{length, getD, length-set}
 use Rattle.payload_b.specs.CodedB.{sumOf}
 use Rattle.payload_b.proofs.Schemes.{sum-most}
-use Rattle.payload_b.proofs.Sending.{Pushed, pushed-none, pushed-waits, pushed-bits, pushed-long, pushed-room, pushed-sends, pushed-all}
+use Rattle.payload_b.proofs.Pushing.{Pushed, pushed-none, pushed-waits, pushed-bits, pushed-long, pushed-room, pushed-sends, pushed-all}
 use borrow.Author.Needs.{needs}
 use Rattle.payload_b.proofs.sender.push.Statement.{statement}
 use Rattle.payload_b.proofs.sender.push.Tie as tie
