@@ -90,6 +90,3 @@ module _ (F : Field2) where
   -- no zero divisors
   pub factor-zero : (a b : Element) → a ≢ 𝟘 → a ⊗ b ≡ 𝟘 → b ≡ 𝟘
   factor-zero a b h e = sym (one-mul b) ∙ cc (F .mul-inv a h, mul-comm a (inv a), mul-assoc (inv a) a b, mul-zero (inv a))
-
-  pub square-add : (a b : Element) → (a ⊕ b) ⊗ (a ⊕ b) ≡ a ⊗ a ⊕ b ⊗ b
-  square-add a b = simp ring

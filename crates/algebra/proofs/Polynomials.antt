@@ -2,7 +2,7 @@
 -- Assumes nothing.
 use mathlib.Core.Path.{_≡_, refl, sym}
 use mathlib.Core.Logic.{_≢_}
-use Prim.Native.Nat.{ℕ, zero, suc, _≤_, _<_}
+use Prim.Native.Nat.{ℕ, zero, suc, _≤_}
 use native.Mathlib.Omega.{arith}
 use Rattle.algebra.proofs.Fields.{Field2, ring, zero-add, add-zero, mul-zero, eq-of-add, factor-zero}
 use Rattle.algebra.proofs.Places.{Distinct, roots, roots-nil, roots-skip, roots-take, roots-mono}
@@ -28,11 +28,6 @@ module _ (F : Field2) where
   ev-suc n p x = refl
 
   ruleset evs = (ring, ev-zero, ev-suc)
-
-  pub ev-cong : (n : ℕ) (p q : ℕ → Element) (x : Element) → ((i : ℕ) → i < n → p i ≡ q i) → ev n p x ≡ ev n q x
-  ev-cong zero p q x h = simp ev-zero
-  ev-cong (suc n) p q x h =
-      simp (ev-suc, h zero (omega arith), ev-cong n (λ i. p (suc i)) (λ i. q (suc i)) x (λ i l. h (suc i) (omega arith)))
 
   -- the last term apart
   pub ev-last : (n : ℕ) (p : ℕ → Element) (x : Element) → ev (suc n) p x ≡ ev n p x ⊕ p n ⊗ pow F x n

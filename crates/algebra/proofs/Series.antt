@@ -54,11 +54,11 @@ module _ (F : Field2) where
   conv-vanish f g (suc n) h =
       simp (conv-suc, h zero (suc n) (omega arith), conv-vanish (λ i. f (suc i)) g n (λ i j e. h (suc i) j (omega arith)), zero-add)
 
-  pub conv-add : (f f' g : ℕ → Element) (n : ℕ) → conv (λ i. f i ⊕ f' i) g n ≡ conv f g n ⊕ conv f' g n
+  conv-add : (f f' g : ℕ → Element) (n : ℕ) → conv (λ i. f i ⊕ f' i) g n ≡ conv f g n ⊕ conv f' g n
   conv-add f f' g zero = simp convs
   conv-add f f' g (suc n) = simp (conv-suc, conv-add (λ i. f (suc i)) (λ i. f' (suc i)) g n, ring)
 
-  pub conv-scale : (c : Element) (f g : ℕ → Element) (n : ℕ) → conv (λ i. c ⊗ f i) g n ≡ c ⊗ conv f g n
+  conv-scale : (c : Element) (f g : ℕ → Element) (n : ℕ) → conv (λ i. c ⊗ f i) g n ≡ c ⊗ conv f g n
   conv-scale c f g zero = simp convs
   conv-scale c f g (suc n) = simp (conv-suc, conv-scale c (λ i. f (suc i)) g n, ring)
 

@@ -104,8 +104,5 @@ module _ (F : Field2) where
           pub len-is-weight : len ≡ weight F n w
           len-is-weight = omega (arith, squeeze)
 
-          pub len-is-roots : len ≡ roots F n (value α len locator)
-          len-is-roots = omega (arith, squeeze)
-
           pub error-of-root : (p : ℕ) → p < n → value α len locator p ≡ 𝟘 → w p ≢ 𝟘
           error-of-root = roots-exact F n w _ root-of-error (omega (arith, squeeze))

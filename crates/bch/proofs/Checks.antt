@@ -2,15 +2,17 @@
 -- Assumes nothing.
 use mathlib.Core.Path.{_≡_}
 use mathlib.Core.Logic.{_≢_}
-use mathlib.Core.List.{List, [], _∷_}
-use Prim.Native.Nat.{ℕ, suc, _≤_, _<_}
-use native.Mathlib.Decide.{decLt}
+use mathlib.Core.List.{List}
+use Prim.Native.Nat.{ℕ, _≤_, _<_}
 use native.Mathlib.Omega.{arith}
-use borrow.Author.Tests.{eq-eqb, ne-eqb, lt-ltb, le-ltb}
-use lib.ListN.{length}
+use borrow.Author.Tests.{eq-eqb, ne-eqb, lt-ltb, le-ltb, ltb-false}
+use lib.Dec.{ltb}
+use lib.ListN.{length, getD}
+use Rattle.ground.proofs.Firsts.{first}
 use Rattle.bch.specs.Words.{Bits, firstBad}
 use Rattle.bch.specs.Codes.{Code, known}
 use Rattle.bch.specs.Promise.{Checked, fails, passes, checkedBy, checked}
+use Rattle.bch.proofs.Digits.{bits-from}
 
 module _ (P : Checked → Type 0) (size : Code → ℕ) (word out : List ℕ) where
   pub unknown-code : (c : ℕ) → c ≢ 1 → c ≢ 2 → c ≢ 3 → P (fails 1 0) → P (checked c size word out)
@@ -35,10 +37,4 @@ module _ (P : Checked → Type 0) (size : Code → ℕ) (word out : List ℕ) wh
 
 -- where no element is bad, all are bits
 pub all-bits : (word : List ℕ) → length word ≤ firstBad word → Bits word
-unfolding firstBad
-all-bits [] h = tt
-all-bits (b ∷ word) h = go (decLt b 2) (λ q. all-bits word q) h
-  where
-    go : Dec (b < 2) → (length word ≤ firstBad word → Bits word) → suc (length word) ≤ firstBad (b ∷ word) → Bits (b ∷ word)
-    go (yes l) ih q = (l, ih (let z = rw (lt-ltb b 2 l) at q in omega (arith, z)))
-    go (no l) ih q = absurd (let z = rw (le-ltb b 2 (omega arith)) at q in omega (arith, z))
+all-bits word h = bits-from word (λ i l. omega (arith, ltb-false 1 (getD word i 0) (first (ltb 1) 0 word .before i (omega arith))))

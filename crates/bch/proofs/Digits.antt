@@ -1,15 +1,17 @@
 -- Bits, and the binary digits of numbers as lists of bits.
 -- Assumes nothing.
-use mathlib.Core.Path.{_≡_, refl, ap, _∙_}
-use mathlib.Core.List.{List, [], _∷_}
+use mathlib.Core.Path.{_≡_, refl, sym, ap, ap₂, _∙_}
+use mathlib.Core.List.{List, [], _∷_, _++_}
 use Prim.Native.Nat.{ℕ, zero, suc, _/_, _%_, _^_, _<_}
-use native.Mathlib.Nat.{mod-lt}
+use native.Mathlib.Nat.{div-one, mod-lt, mod-eq-of-lt}
+use native.Mathlib.Numerals.{one-add}
 use native.Mathlib.Omega.{arith}
 use lib.Bits.{bitXor, xor-shr, xor-mod}
 use lib.Dec.{lit<}
 use lib.ListN.{length, getD, take, drop}
+use lib.Pow.{shr-shr}
 use Rattle.field.proofs.Values.{plus}
-use Rattle.bch.specs.Words.{Bits, digits}
+use Rattle.bch.specs.Words.{Bits, lowest, digits}
 
 pub bits-at : (bs : List ℕ) → Bits bs → (i : ℕ) → getD bs i 0 < 2
 bits-at [] h i = lit< tt
@@ -35,6 +37,12 @@ unfolding digits
 length-digits zero x = refl
 length-digits (suc r) x = ap suc (length-digits r x)
 
+-- the last digit apart
+pub digits-last : (r x : ℕ) → digits (suc r) x ≡ digits r (x / 2) ++ (x % 2 ∷ [])
+unfolding digits
+digits-last zero x = ap (λ (n : ℕ). n % 2 ∷ []) (div-one x)
+digits-last (suc r) x = ap₂ _∷_ (ap (λ (n : ℕ). n % 2) (rw one-add at (sym (shr-shr x 1 r)))) (digits-last r x)
+
 pub digits-bits : (r x : ℕ) → Bits (digits r x)
 unfolding digits
 digits-bits zero x = tt
@@ -47,3 +55,22 @@ pub digits-xor : (r x y : ℕ) → digits r (bitXor x y) ≡ plus (digits r x) (
 unfolding digits plus
 digits-xor zero x y = refl
 digits-xor (suc r) x y = rw (digit-xor r x y, digits-xor r x y)
+
+-- ---- the lowest digit of each element
+
+pub length-lowest : (w : List ℕ) → length (lowest w) ≡ length w
+length-lowest [] = refl
+length-lowest (b ∷ bs) = ap suc (length-lowest bs)
+
+pub lowest-at : (w : List ℕ) (i : ℕ) → getD (lowest w) i 0 ≡ getD w i 0 % 2
+lowest-at [] i = refl
+lowest-at (b ∷ bs) zero = refl
+lowest-at (b ∷ bs) (suc i) = lowest-at bs i
+
+pub lowest-bits : (w : List ℕ) → Bits (lowest w)
+lowest-bits [] = tt
+lowest-bits (b ∷ bs) = (mod-lt b (lit< tt), lowest-bits bs)
+
+pub lowest-same : (w : List ℕ) → Bits w → lowest w ≡ w
+lowest-same [] h = refl
+lowest-same (b ∷ bs) h = ap₂ _∷_ (mod-eq-of-lt (h .0)) (lowest-same bs (h .1))

@@ -65,7 +65,7 @@ module _ (v w : ℕ) (vs ws : List ℕ) (e : length vs ≡ length ws) where
       ∙ omega (arith, weight-low, apart-other v w s)
 
 weight-differ : (v w : List ℕ) → Bits v → Bits w → length v ≡ length w → weight GF512 (length v) (error v w) ≡ differ v w
-weight-differ [] w bv bw e = weight-nil GF512 _ ∙ sym (differ-nil w)
+weight-differ [] w bv bw e = weight-nil GF512 _ ∙ e ∙ sym (differ-nil w)
 weight-differ (v ∷ vs) [] bv bw e = absurd (omega arith)
 weight-differ (v ∷ vs) (w ∷ ws) bv bw e =
     let l : length vs ≡ length ws = omega arith in

@@ -1,5 +1,3 @@
-pub mod Lents
-pub mod Summands
 pub mod Digits
 pub mod Distances
 pub mod Errors
@@ -9,18 +7,10 @@ pub mod Triples
 pub mod Remainders
 pub mod Tops
 pub mod Nibbles
-pub mod Syndromic
-pub mod Leftovers
 pub mod Uniqueness
-pub mod Flips
-pub mod Completeness
-pub mod Shifts
-pub mod Mixes
-pub mod Coefficients
-pub mod Recurrences
-pub mod Attempts
 pub mod Parts
 pub mod Checks
 pub mod Sounds
 pub mod Once
 pub mod Mendings
+pub mod OnceHeld

@@ -7,9 +7,11 @@ use mathlib.Core.List.{List, [], _∷_, _++_}
 use Prim.Native.Nat.{ℕ, _-_, _≤_, _<_}
 use native.Mathlib.Decide.{ℕ-discrete}
 use native.Mathlib.Omega.{arith}
-use borrow.Author.Tests.{eq-eqb, ne-eqb, lt-ltb}
-use lib.ListN.{length, take, drop, length-append}
+use borrow.Author.Tests.{eq-eqb, ne-eqb, le-ltb}
+use lib.Dec.{ltb}
+use lib.ListN.{length, getD, take, drop, length-append}
 use lib.Seq.{take-at}
+use Rattle.ground.proofs.Firsts.{first-none}
 use Rattle.bch.specs.Words.{Bits, digits, firstBad, differ}
 use Rattle.bch.specs.Remainders.{remainder}
 use Rattle.bch.specs.Codes.{Code, known, unknown, named, code1, code2, code3, encoded, Codeword, Within}
@@ -17,7 +19,7 @@ use Rattle.bch.specs.Answers.{decodeNumber, decodeMended}
 use Rattle.bch.specs.Promise.{passes, Decodes, Decoding}
 use Rattle.bch.specs.Held.{Rooted}
 use Rattle.bch.specs.declared.Decoded.{Decoded}
-use Rattle.bch.proofs.Digits.{length-digits, digits-bits}
+use Rattle.bch.proofs.Digits.{bits-at, length-digits, digits-bits}
 use Rattle.bch.proofs.Distances.{differ-self}
 use Rattle.bch.proofs.Checks.{all-pass}
 use Rattle.bch.proofs.Generators.{rooted1, rooted2, rooted3}
@@ -29,7 +31,7 @@ pub bits-append : (v w : List ℕ) → Bits v → Bits w → Bits (v ++ w)
 bits-append [] w hv hw = hw
 bits-append (b ∷ v) w hv hw = (hv .0, bits-append v w (hv .1) hw)
 
-pub encoded-codeword : {c : Code} → Rooted c → (m : List ℕ) → Bits m → length m ≡ c .k → Codeword c (encoded c m)
+encoded-codeword : {c : Code} → Rooted c → (m : List ℕ) → Bits m → length m ≡ c .k → Codeword c (encoded c m)
 unfolding encoded
 encoded-codeword {c} rooted m bits long =
     let behind = digits (c .n - c .k) (remainder (c .n - c .k) (c .generator) m) in
@@ -44,11 +46,9 @@ encoded-codeword {c} rooted m bits long =
 -- ---- the three codes by their numbers
 
 pub none-bad : (w : List ℕ) → Bits w → length w ≤ firstBad w
-unfolding firstBad
-none-bad [] h = omega arith
-none-bad (b ∷ w) h = let l = none-bad w (h .1) in rw (lt-ltb b 2 (h .0)) (omega arith)
+none-bad w h = omega (arith, first-none (ltb 1) 0 w (λ i _. le-ltb 1 (getD w i 0) (omega (arith, bits-at w h i))))
 
-pub rooted-of : (number : ℕ) (c : Code) → named number ≡ known c → Rooted c
+rooted-of : (number : ℕ) (c : Code) → named number ≡ known c → Rooted c
 rooted-of number c e = go (ℕ-discrete number 1) (ℕ-discrete number 2) (ℕ-discrete number 3)
   where
     is : (d : Code) → known d ≡ known c → Rooted d → Rooted c
@@ -63,6 +63,16 @@ rooted-of number c e = go (ℕ-discrete number 1) (ℕ-discrete number 2) (ℕ-d
         let z : _≡_ {A = ℕ} 0 1 = cc in
         absurd (omega arith)
 
+-- so what stands above the codes needs a code's number alone
+module _ (number : ℕ) {c : Code} (code : named number ≡ known c) where
+  -- never two codewords within t
+  pub only-codeword : {w v u : List ℕ} → length w ≡ c .n → Within c w v → Within c w u → v ≡ u
+  only-codeword = unique (rooted-of number c code)
+
+  -- what is encoded is a codeword
+  pub encoding-codeword : (m : List ℕ) → Bits m → length m ≡ c .k → Codeword c (encoded c m)
+  encoding-codeword = encoded-codeword (rooted-of number c code)
+
 module _ (number : ℕ) {c : Code} (code : named number ≡ known c) (w out : List ℕ) (bits : Bits w) (long : length w ≡ c .n) (room : c .n ≤ length out)
     (answer : Decoded) (after : List ℕ) (decoding : Decoding number w out answer after) where
   passed : Decodes (passes c) w out answer after
@@ -71,21 +81,21 @@ module _ (number : ℕ) {c : Code} (code : named number ≡ known c) (w out : Li
       (λ p. p) (rw code at decoding)
 
   -- a codeword within t of the word is the answer
-  pub near-is-answered : (v : List ℕ) → Within c w v
+  near-is-answered : (v : List ℕ) → Within c w v
       → (decodeNumber answer ≡ 0) × (decodeMended answer ≡ differ v w) × (after ≡ v ++ drop (c .n) out)
   near-is-answered v within = go passed
     where
       go : Decodes (passes c) w out answer after → (decodeNumber answer ≡ 0) × (decodeMended answer ≡ differ v w) × (after ≡ v ++ drop (c .n) out)
       go (inr h) = absurd (h .none v within)
       go (inl m) =
-          let same = unique (rooted-of number c code) long (m .within) within in (
+          let same = only-codeword number code long (m .within) within in (
             m .number,
             m .count ∙ ap (λ (l : List ℕ). differ l w) same,
             m .left ∙ ap (λ (l : List ℕ). l ++ drop (c .n) out) same,
           )
 
   -- a word further than t away is not
-  pub far-is-not : (v : List ℕ) → c .t < differ v w → decodeNumber answer ≡ 0 → take (c .n) after ≡ v → ⊥
+  far-is-not : (v : List ℕ) → c .t < differ v w → decodeNumber answer ≡ 0 → take (c .n) after ≡ v → ⊥
   far-is-not v far accepted e = go passed
     where
       go : Decodes (passes c) w out answer after → ⊥
@@ -113,7 +123,7 @@ module _ (number : ℕ) {c : Code} (code : named number ≡ known c) (out : List
         → (decodeNumber answer ≡ 0) × (decodeMended answer ≡ differ (encoded c m) w) × (after ≡ encoded c m ++ drop (c .n) out)
     hits-are-mended near =
         near-is-answered number code w out w-bits w-long room answer after decoding (encoded c m)
-        (record { codeword = encoded-codeword (rooted-of number c code) m bits long; near = near })
+        (record { codeword = encoding-codeword number code m bits long; near = near })
 
     -- with more than t flipped, the old codeword is never the answer
     pub hits-beyond : c .t < differ (encoded c m) w → decodeNumber answer ≡ 0 → take (c .n) after ≡ encoded c m → ⊥

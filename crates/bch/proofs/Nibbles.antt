@@ -1,22 +1,22 @@
 -- Bits taken in several at a time: digits that fall out of the register count as bits of the word, and remainders of four bits from one another.
 -- Assumes nothing.
-use mathlib.Core.Path.{_≡_, refl, sym, ap, ap₂, _∙_}
-use mathlib.Core.List.{List, [], _∷_, _++_}
+use mathlib.Core.Path.{_≡_, refl, sym, ap, _∙_}
+use mathlib.Core.List.{List, [], _∷_}
 use Prim.Native.Nat.{ℕ, zero, suc, _+_, _*_, _/_, _%_, _^_, _<_}
 use native.Mathlib.Omega.{arith}
-use native.Mathlib.Numerals.{one-add, towards-suc}
-use native.Mathlib.Nat.{mod-lt, mod-eq-of-lt, div-eq-of-lt, div-add-mod', mul-assoc, mul-one, pow-suc, pow-succ', mul-add-mod-self-right, zero-mod, zero-div}
+use native.Mathlib.Numerals.{towards-suc}
+use native.Mathlib.Nat.{mod-lt, mod-eq-of-lt, div-eq-of-lt, div-add-mod', mul-assoc, mul-one, pow-suc, pow-succ', mul-add-mod-self-right}
 use lib.Bits.{bitXor, xor-shr, xor-shifted, xor-zero-l, xor-zero-r}
 use lib.ListN.{length, getD, drop}
 use lib.Seq.{drop-cons}
-use lib.Pow.{pow-pos, shr-lt, shr-shr}
+use lib.Pow.{pow-pos, shr-lt}
 use Rattle.ground.proofs.Xors.{xors, xor-left-comm, xor-double}
 use Rattle.field.proofs.Values.{plus}
 use Rattle.bch.specs.Words.{digits}
 use Rattle.bch.specs.Registers.{tops}
 use Rattle.bch.specs.Remainders.{reduced, step, remainderFrom, remainder}
-use Rattle.bch.proofs.Digits.{length-digits, digits-xor}
-use Rattle.bch.proofs.Remainders.{halved, step-same, xor-scaled, from-append}
+use Rattle.bch.proofs.Digits.{length-digits, digits-xor, digits-last}
+use Rattle.bch.proofs.Remainders.{halved, step-0, xor-scaled, from-append}
 use Rattle.bch.proofs.Tops.{tops-shifted}
 
 -- ---- what falls out of the register
@@ -93,20 +93,11 @@ four-from w i h =
 
 -- ---- remainders of digits
 
--- the last digit apart
-digits-last : (m x : ℕ) → digits (suc m) x ≡ digits m (x / 2) ++ (x % 2 ∷ [])
-unfolding digits
-digits-last zero x = ap (λ (n : ℕ). n % 2 ∷ []) (omega arith)
-digits-last (suc m) x = ap₂ _∷_ (ap (λ (n : ℕ). n % 2) (sym (rw one-add at (shr-shr x 1 m)))) (digits-last m x)
-
 module _ (r g : ℕ) where
-  step-0 : step r g 0 0 ≡ 0
-  step-0 = step-same r 0 0 g (zero-div (2 ^ r)) ∙ zero-mod (2 ^ r)
-
   -- a digit 0 before the others
   before : (m x : ℕ) → x < 2 ^ m → remainder r g (digits (suc m) x) ≡ remainder r g (digits m x)
   unfolding remainder remainderFrom digits
-  before m x h = rw (div-eq-of-lt h, step-0)
+  before m x h = rw (div-eq-of-lt h, step-0 r g)
 
   pub remainder-0 : (m : ℕ) → remainder r g (digits m 0) ≡ 0
   unfolding remainder remainderFrom digits

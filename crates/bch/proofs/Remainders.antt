@@ -6,9 +6,10 @@ use mathlib.Core.Logic.{_≢_}
 use Prim.Native.Nat.{ℕ, zero, suc, _+_, _-_, _*_, _/_, _%_, _^_, _≤_, _<_}
 use native.Mathlib.Omega.{arith}
 use native.Mathlib.Decide.{ℕ-discrete}
-use native.Mathlib.Nat.{mod-lt, div-add-mod', div-eq-of-lt, div-lt-iff-lt-mul, mul-div-mul-right, mul-assoc, zero-mul, add-zero, pow-suc, add-sub-of-le}
+use native.Mathlib.Nat.{mod-lt, div-add-mod', div-eq-of-lt, div-lt-iff-lt-mul, mul-div-mul-right, mul-assoc, zero-mul, zero-div, zero-mod, add-zero, pow-suc, add-sub-of-le}
 use lib.Bits.{bitXor, xor-block, xor-lt, xor-self, xor-comm}
 use lib.Dec.{lit<}
+use lib.ListN.{replicate}
 use lib.Pow.{pow-pos, pow-add, high}
 use Rattle.bch.specs.Words.{Bits}
 use Rattle.bch.specs.Remainders.{reduced, step, remainderFrom, remainder}
@@ -70,6 +71,16 @@ pub from-append : (r g x : ℕ) (v w : List ℕ) → remainderFrom r g x (v ++ w
 unfolding remainderFrom
 from-append r g x [] w = refl
 from-append r g x (b ∷ v) w = from-append r g (step r g x b) v w
+
+-- the zero register takes in a 0
+pub step-0 : (r g : ℕ) → step r g 0 0 ≡ 0
+step-0 r g = step-same r 0 0 g (zero-div (2 ^ r)) ∙ zero-mod (2 ^ r)
+
+-- leading zeros leave the remainder as it is, so the shortened code is the 511-bit code with leading zeros dropped (clause 6.3.5)
+pub leading-zeros : (r g m : ℕ) (w : List ℕ) → remainder r g (replicate m 0 ++ w) ≡ remainder r g w
+unfolding remainder remainderFrom
+leading-zeros r g zero w = refl
+leading-zeros r g (suc m) w = ap (λ (x : ℕ). remainderFrom r g x (replicate m 0 ++ w)) (step-0 r g) ∙ leading-zeros r g m w
 
 pub remainder-lt : (r g : ℕ) → g / 2 ^ r ≡ 1 → (m : List ℕ) → Bits m → remainder r g m < 2 ^ r
 unfolding remainder remainderFrom

@@ -3,9 +3,8 @@
 use mathlib.Core.Path.{_≡_, sym, ap, _∙_}
 use mathlib.Core.List.{List, [], _∷_}
 use Prim.Native.Nat.{ℕ, zero, suc, _-_, _*_, _/_, _%_, _^_, _≤_, _<_}
-use native.Mathlib.Nat.{zero-mul, one-mul, mul-one, mul-assoc, pow-zero, pow-suc, zero-div, div-one, mul-mod-left, mul-div-mul-right, mod-eq-of-lt}
+use native.Mathlib.Nat.{zero-mul, one-mul, mul-one, mul-assoc, pow-zero, pow-suc, zero-div, div-one, mul-mod-left, mod-eq-of-lt}
 use lib.Bits.{bitXor}
-use lib.Dec.{lit<}
 use lib.ListN.{length, take}
 use Rattle.ground.proofs.Xors.{by-digit}
 use Rattle.algebra.proofs.Fields.{Field2, ring, add-self, add-zero, zero-add, add-comm, add-of-eq}
@@ -17,14 +16,12 @@ use Rattle.bch.specs.Remainders.{reduced, step, remainderFrom, remainder
 use Rattle.bch.specs.Codes.{Code, encoded, Codeword}
 use Rattle.bch.specs.Held.{Rooted}
 use Rattle.bch.proofs.Digits.{bits-take, length-digits, digit-xor, digits-xor}
+use Rattle.bch.proofs.Remainders.{halved}
 open Field2 GF512 using (Element, zero as 𝟘, add as _⊕_, mul as _⊗_)
 
 infixl 60 _⊕_
 infixl 70 _⊗_
 -- ---- the value of a number's digits
-
-double-digit : (r n : ℕ) → n * 2 / 2 ^ suc r % 2 ≡ n / 2 ^ r % 2
-double-digit r n = rw (pow-suc, mul-div-mul-right n (2 ^ r) (lit< tt))
 
 module _ (x : Element) where
   -- the polynomial of the r low digits of n, at x
@@ -49,7 +46,7 @@ module _ (x : Element) where
   -- a digit 0 behind the others
   poly-double : (r n : ℕ) → poly (suc r) (n * 2) ≡ poly r n ⊗ x
   poly-double zero n = rw (poly-suc zero, poly-none (n * 2), poly-none n, pow-zero, div-one, mul-mod-left, of-0) (simp ring)
-  poly-double (suc r) n = rw (poly-suc (suc r), poly-double r n, double-digit, poly-suc r n, pow-suc') (simp ring)
+  poly-double (suc r) n = rw (poly-suc (suc r), poly-double r n, halved, poly-suc r n, pow-suc') (simp ring)
 
   -- one digit before r digits 0
   poly-top : (r b : ℕ) → poly (suc r) (b * 2 ^ r) ≡ element-of (b % 2) ⊗ pow GF512 x r
@@ -97,7 +94,7 @@ module _ (x : Element) where
 -- ---- codewords
 
 module _ {c : Code} (rooted : Rooted c) (j : ℕ) (low : 0 < j) (high : j ≤ c .t * 2) where
-  pub encoded-zero : (m : List ℕ) → Bits m → value (pow GF512 a j) (encoded c m) ≡ 𝟘
+  encoded-zero : (m : List ℕ) → Bits m → value (pow GF512 a j) (encoded c m) ≡ 𝟘
   unfolding encoded
   encoded-zero m h =
       rw (value-append, length-digits) (add-of-eq GF512 (value-remainder _ (c .n - c .k) (c .generator) (rooted .degree) (rooted .roots j low high) m h))

@@ -1,10 +1,16 @@
--- A code that is held is sound where its generator has the roots; the rest is computed.
+-- A code that is held is sound where its generator has the roots; the rest is computed. Its remainder stands at the top of the register.
 -- Assumes nothing.
-use Prim.Native.Nat.{_-_, _*_, _^_}
+use mathlib.Core.Path.{_≡_, sym, ap, _∙_}
+use mathlib.Core.List.{List}
+use Prim.Native.Nat.{ℕ, _-_, _*_, _^_}
 use lib.Dec.{T, leb, eqb, leb→le, eqb→eq}
-use Rattle.bch.specs.Registers.{whole}
+use Rattle.bch.specs.Words.{digits}
+use Rattle.bch.specs.Registers.{tops, whole}
+use Rattle.bch.specs.Remainders.{remainder}
 use Rattle.bch.specs.Held.{Rooted, Sound, codeOf}
 use Rattle.bch.specs.declared.code.Held.{Held}
+use Rattle.bch.proofs.Remainders.{remainder-scaled}
+use Rattle.bch.proofs.Tops.{digits-tops}
 
 pub sound : (h : Held) → Rooted (codeOf h) → T (leb (h .n - h .k) 192) → T (leb (h .n) 508) → T (leb (h .t) 16)
     → T (eqb (whole (h .generator)) (codeOf h .generator * 2 ^ (192 - (h .n - h .k)))) → Sound h
@@ -15,3 +21,11 @@ sound h rooted narrow short few exact = record {
   few = leb→le (h .t) 16 few;
   exact = eqb→eq (whole (h .generator)) (codeOf h .generator * 2 ^ (192 - (h .n - h .k))) exact;
 }
+
+module _ {h : Held} (sound : Sound h) (m : List ℕ) where
+  pub scaled : remainder 192 (whole (h .generator)) m ≡ remainder (h .n - h .k) (codeOf h .generator) m * 2 ^ (192 - (h .n - h .k))
+  scaled =
+      ap (λ (g : ℕ). remainder 192 g m) (sound .exact) ∙ remainder-scaled (h .n - h .k) (codeOf h .generator) (sound .narrow) m
+
+  pub tops-remainder : tops (h .n - h .k) (remainder 192 (whole (h .generator)) m) ≡ digits (h .n - h .k) (remainder (h .n - h .k) (codeOf h .generator) m)
+  tops-remainder = ap (tops (h .n - h .k)) scaled ∙ sym (digits-tops (h .n - h .k) _ (sound .narrow))

@@ -63,7 +63,7 @@ tops-xor (suc m) x y =
 
 -- ---- bits at the top of a register
 
-pub packed-lt : (bs : List ℕ) → Bits bs → packed bs < 2 ^ 192
+packed-lt : (bs : List ℕ) → Bits bs → packed bs < 2 ^ 192
 unfolding packed
 packed-lt [] bits = pow-pos 192
 packed-lt (b ∷ bs) bits = digits-lt (bits .0) (shr-lt 191 1 (packed-lt bs (bits .1)))

@@ -18,6 +18,15 @@ joined-lt kh km kl = digits-lt (digits-lt kh km) kl
 pub joined-0 : (W h m l : ℕ) → 0 < W → joined W h m l ≡ 0 → (h ≡ 0) × (m ≡ 0)
 joined-0 W h m l pos e = omega (arith, le-mul-of-pos-right h pos, le-mul-of-pos-right (h * W + m) pos)
 
+-- the words are those of the number
+pub joined-once : (W h m l i n k : ℕ) → m < W → l < W → n < W → k < W → joined W h m l ≡ joined W i n k → (h ≡ i) × (m ≡ n) × (l ≡ k)
+joined-once W h m l i n k km kl kn kk e =
+    let high : h * W + m ≡ i * W + n = sym (digits-div (h * W + m) kl) ∙ ap (λ (x : ℕ). x / W) e ∙ digits-div (i * W + n) kk in (
+      sym (digits-div h km) ∙ ap (λ (x : ℕ). x / W) high ∙ digits-div i kn,
+      sym (digits-mod h km) ∙ ap (λ (x : ℕ). x % W) high ∙ digits-mod i kn,
+      sym (digits-mod (h * W + m) kl) ∙ ap (λ (x : ℕ). x % W) e ∙ digits-mod (i * W + n) kk,
+    )
+
 pub joined-top : (W H h m l : ℕ) → m < W → l < W → joined W h m l / (W * W * H) ≡ h / H
 joined-top W H h m l km kl =
     let x = joined W h m l in

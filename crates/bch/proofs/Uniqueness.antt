@@ -38,6 +38,6 @@ module _ {c : Code} (rooted : Rooted c) where
 
   pub unique : {w v u : List ℕ} → length w ≡ c .n → Within c w v → Within c w u → v ≡ u
   unique {w} {v} {u} e hv hu =
-      let s = triangle v w u (hv .codeword .long ∙ sym e) in
+      let s = triangle v w u in
       let k = differ-comm w u in
       far (hv .codeword) (hu .codeword) (omega arith)

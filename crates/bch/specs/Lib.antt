@@ -4,5 +4,4 @@ pub mod Codes
 pub mod Answers
 pub mod Promise
 pub mod Registers
-pub mod Locators
 pub mod Held

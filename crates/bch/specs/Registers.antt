@@ -1,5 +1,5 @@
 -- How the code holds a remainder: at the top of a register of 192 binary digits.
--- The promise of encode and decode rests on nothing here: it is what the private functions promise one another.
+-- The promise of encode and decode rests on nothing here: it is what the jobs and what they stand on promise one another.
 -- Assumes nothing.
 use mathlib.Core.Path.{_≡_}
 use mathlib.Core.List.{List, [], _∷_}

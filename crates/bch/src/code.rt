@@ -1,4 +1,5 @@
 // The three codes as the code holds them: the generator stands at the top of a register, without its highest digit.
+ghost use Rattle.bch.specs.Held.{Holds};
 use crate::register::Register;
 
 pub struct Held {
@@ -9,7 +10,7 @@ pub struct Held {
 }
 
 // (508, 472), mends 4.
-pub(crate) const CODE1: Held = Held {
+const CODE1: Held = Held {
     n: 508,
     k: 472,
     t: 4,
@@ -21,7 +22,7 @@ pub(crate) const CODE1: Held = Held {
 };
 
 // (504, 432), mends 8.
-pub(crate) const CODE2: Held = Held {
+const CODE2: Held = Held {
     n: 504,
     k: 432,
     t: 8,
@@ -33,7 +34,7 @@ pub(crate) const CODE2: Held = Held {
 };
 
 // (392, 248), mends 16.
-pub(crate) const CODE3: Held = Held {
+const CODE3: Held = Held {
     n: 392,
     k: 248,
     t: 16,
@@ -43,3 +44,20 @@ pub(crate) const CODE3: Held = Held {
         low: 0x01ad_0000_0000_0000,
     },
 };
+
+// The code of a number, if there is one.
+pub enum Named {
+    Known(Held),
+    Unknown,
+}
+
+pub fn numbered(code: u8) -> Named
+    ensures { λ r. ⌜ Holds code r ⌝ }
+{
+    match code {
+        1 => Named::Known(CODE1),
+        2 => Named::Known(CODE2),
+        3 => Named::Known(CODE3),
+        _ => Named::Unknown,
+    }
+}

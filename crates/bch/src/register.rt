@@ -6,7 +6,7 @@ ghost use Prim.Native.Nat.{ℕ, _+_, _*_, _/_, _%_, _^_, _<_};
 ghost use lib.Bits.{bitXor};
 ghost use lib.Dec.{eqb};
 ghost use lib.ListN.{length, drop};
-ghost use Rattle.bch.specs.Words.{Bits, digits};
+ghost use Rattle.bch.specs.Words.{lowest, digits};
 ghost use Rattle.bch.specs.Remainders.{step, remainder, remainderFrom};
 ghost use Rattle.bch.specs.Registers.{number, whole, packed, tops, Fours};
 
@@ -16,15 +16,22 @@ pub struct Register {
     pub low: u64,
 }
 
+// No digit but 0.
+const ZERO: Register = Register {
+    high: 0,
+    mid: 0,
+    low: 0,
+};
+
 // The highest digit.
-pub(crate) fn top(r: Register) -> u64
+pub fn top(r: Register) -> u64
     ensures { λ t. ⌜ (t ≡ number r / 2 ^ 191) × (t < 2) ⌝ }
 {
     r.high / 0x8000_0000_0000_0000
 }
 
 // One place up; the highest digit falls out.
-pub(crate) fn up(r: Register) -> Register
+pub fn up(r: Register) -> Register
     ensures { λ q. ⌜ number q ≡ number r * 2 % 2 ^ 192 ⌝ }
 {
     Register {
@@ -35,7 +42,7 @@ pub(crate) fn up(r: Register) -> Register
 }
 
 // One place down, with b as the highest digit; the lowest falls out.
-pub(crate) fn down(r: Register, b: u64) -> Register
+fn down(r: Register, b: u64) -> Register
     requires { ⌜ b < 2 ⌝ }
     ensures { λ q. ⌜ number q ≡ b * 2 ^ 191 + number r / 2 ⌝ }
 {
@@ -47,7 +54,7 @@ pub(crate) fn down(r: Register, b: u64) -> Register
 }
 
 // The sum without carries.
-pub(crate) fn xor(r: Register, s: Register) -> Register
+pub fn xor(r: Register, s: Register) -> Register
     ensures { λ q. ⌜ number q ≡ bitXor (number r) (number s) ⌝ }
 {
     Register {
@@ -57,7 +64,7 @@ pub(crate) fn xor(r: Register, s: Register) -> Register
     }
 }
 
-pub(crate) fn is_zero(r: Register) -> bool
+pub fn is_zero(r: Register) -> bool
     ensures { λ z. ⌜ z ≡ eqb (number r) 0 ⌝ }
 {
     if r.high == 0 {
@@ -69,7 +76,7 @@ pub(crate) fn is_zero(r: Register) -> bool
 }
 
 // The register takes in one bit; the generator g stands without its highest digit.
-pub(crate) fn step(r: Register, g: Register, b: u8) -> Register
+fn step(r: Register, g: Register, b: u8) -> Register
     requires { ⌜ b < 2 ⌝ }
     ensures { λ q. ⌜ number q ≡ step 192 (whole g) (number r) b ⌝ }
 {
@@ -85,12 +92,7 @@ pub(crate) fn step(r: Register, g: Register, b: u8) -> Register
 fn fours(g: Register) -> [Register; 16]
     ensures { λ t. ⌜ Fours (whole g) 16 t ⌝ }
 {
-    let none = Register {
-        high: 0,
-        mid: 0,
-        low: 0,
-    };
-    let mut table = [none; 16];
+    let mut table = [ZERO; 16];
     let mut i: usize = 1;
     while i < 16 {
         table[i] = step(table[i / 2], g, (i % 2) as u8);
@@ -122,17 +124,17 @@ fn down4(r: Register, b: u64) -> Register
     }
 }
 
-// A bit as a machine word.
+// The lowest digit of an element, as a machine word.
 fn wide(b: u8) -> u64
-    ensures { λ w. ⌜ (w ≡ b) × (w < 256) ⌝ }
+    ensures { λ w. ⌜ (w ≡ b % 2) × (w < 2) ⌝ }
 {
-    b as u64
+    (b % 2) as u64
 }
 
 // The number of the four bits from i on.
 fn four(word: &[u8], i: usize) -> u64
-    requires { ⌜ Bits (now word) × (i + 3 < length (now word)) ⌝ }
-    ensures { λ b. ⌜ (b < 16) × (drop i (now (word .entry)) ≡ digits 4 b ++ drop (i + 4) (now (word .entry))) ⌝ }
+    requires { ⌜ i + 3 < length (now word) ⌝ }
+    ensures { λ b. ⌜ (b < 16) × (drop i (lowest (now (word .entry))) ≡ digits 4 b ++ drop (i + 4) (lowest (now (word .entry)))) ⌝ }
 {
     wide(word[i]) * 8 + wide(word[i + 1]) * 4 + wide(word[i + 2]) * 2 + wide(word[i + 3])
 }
@@ -152,39 +154,29 @@ fn step4(r: Register, e: Register) -> Register
     xor(up4(r), e)
 }
 
-// The remainder of word by the generator g.
-pub(crate) fn remainder(g: Register, word: &[u8]) -> Register
-    requires { ⌜ Bits (now word) ⌝ }
-    ensures { λ q. ⌜ number q ≡ remainder 192 (whole g) (now (word .entry)) ⌝ }
+// The remainder of word by the generator g; an element counts as its lowest binary digit.
+pub fn remainder(g: Register, word: &[u8]) -> Register
+    ensures { λ q. ⌜ number q ≡ remainder 192 (whole g) (lowest (now (word .entry))) ⌝ }
 {
     let table = fours(g);
-    let mut r = Register {
-        high: 0,
-        mid: 0,
-        low: 0,
-    };
+    let mut r = ZERO;
     let mut i: usize = 0;
     while i + 3 < word.len() {
         r = step4(r, table[slot(r, four(word, i))]);
         i += 4;
     }
     while i < word.len() {
-        r = step(r, g, word[i]);
+        r = step(r, g, word[i] % 2);
         i += 1;
     }
     r
 }
 
-// The bits of word at the top of a register.
-pub(crate) fn packed(word: &[u8]) -> Register
-    requires { ⌜ Bits (now word) ⌝ }
-    ensures { λ q. ⌜ number q ≡ packed (now (word .entry)) ⌝ }
+// The bits of word at the top of a register; an element counts as its lowest binary digit.
+pub fn packed(word: &[u8]) -> Register
+    ensures { λ q. ⌜ number q ≡ packed (lowest (now (word .entry))) ⌝ }
 {
-    let mut r = Register {
-        high: 0,
-        mid: 0,
-        low: 0,
-    };
+    let mut r = ZERO;
     let mut i: usize = word.len();
     while 4 <= i {
         i -= 4;
@@ -192,13 +184,13 @@ pub(crate) fn packed(word: &[u8]) -> Register
     }
     while 0 < i {
         i -= 1;
-        r = down(r, word[i] as u64);
+        r = down(r, wide(word[i]));
     }
     r
 }
 
 // The highest digits, as many as out has places.
-pub(crate) fn put(r: Register, out: &mut [u8])
+pub fn put(r: Register, out: &mut [u8])
     ensures { λ _. ⌜ now (out .exit) ≡ tops (length (now (out .entry))) (number r) ⌝ }
 {
     let mut rest = r;

@@ -1,4 +1,4 @@
--- What an exported call promises: the promise of bch or of payload, and the answer as a caller in C reads it.
+-- What an exported call promises: the promise of the codes or of a payload, and the answer as a caller in C reads it.
 -- Assumes nothing.
 use mathlib.Core.Path.{_≡_}
 use mathlib.Core.List.{List}

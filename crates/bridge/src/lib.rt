@@ -14,8 +14,8 @@
 //   struct Answer ortkaveq_receive_b(uint8_t mode, size_t size, const uint8_t *scheme, size_t scheme_length,
 //                                    const int16_t *i, size_t i_length, const int16_t *q, size_t q_length, uint8_t *area, size_t area_length);
 //
-// What a caller in C owes: each pointer leads to that many elements, what is written overlaps nothing else that is passed, and nothing
-// else touches any of them meanwhile.
+// What a caller in C owes: each pointer leads to that many elements, is aligned for them and is not null, where the length is 0 too; what is
+// written overlaps nothing else that is passed, and nothing else touches any of them meanwhile.
 //
 //   words      what encode and decode answered, as a caller in C reads it
 //   payloads   what sending and receiving a payload answered
@@ -47,7 +47,7 @@ pub struct ReceivedAnswer {
 pub extern "C" fn ortkaveq_encode(code: u8, word: &[u8], out: &mut [u8]) -> Answer
     ensures { λ r. ⌜ EncodeCall code (now (word .entry)) (now (out .entry)) r (now (out .exit)) ⌝ }
 {
-    words::of_encoded(bch::encode(code, word, out))
+    words::of_encoded(encoder::encode(code, word, out))
 }
 
 // Writes the n bits of the codeword that differs from the n bits of word in at most t places, if there is one.
@@ -55,7 +55,7 @@ pub extern "C" fn ortkaveq_encode(code: u8, word: &[u8], out: &mut [u8]) -> Answ
 pub extern "C" fn ortkaveq_decode(code: u8, word: &[u8], out: &mut [u8]) -> Answer
     ensures { λ r. ⌜ DecodeCall code (now (word .entry)) (now (out .entry)) r (now (out .exit)) ⌝ }
 {
-    words::of_decoded(bch::decode(code, word, out))
+    words::of_decoded(decoder::decode(code, word, out))
 }
 
 // Sends a frame of Payload A: writes 512 elements of I and of Q.
@@ -63,7 +63,7 @@ pub extern "C" fn ortkaveq_decode(code: u8, word: &[u8], out: &mut [u8]) -> Answ
 pub extern "C" fn ortkaveq_send_a(mode: u8, frame: &[u8], i: &mut [i16], q: &mut [i16]) -> Answer
     ensures { λ r. ⌜ SendACall mode (now (frame .entry)) (now (i .entry)) (now (q .entry)) r (now (i .exit)) (now (q .exit)) ⌝ }
 {
-    payloads::of_sent(payload_a::send_a(mode, frame, i, q))
+    payloads::of_sent(sender_a::send_a(mode, frame, i, q))
 }
 
 // Receives a frame of Payload A from 512 elements of I and of Q: writes its bytes to the first of the area.
@@ -76,7 +76,7 @@ pub extern "C" fn ortkaveq_receive_a(
 ) -> ReceivedAnswer
     ensures { λ r. ⌜ ReceiveACall mode (now (i .entry)) (now (q .entry)) (now (area .entry)) r (now (area .exit)) ⌝ }
 {
-    payloads::of_received_a(payload_a::receive_a(mode, i, q, area))
+    payloads::of_received_a(receiver_a::receive_a(mode, i, q, area))
 }
 
 // Sends a frame of Payload B by a scheme: writes 256 elements of I and of Q for each OFDM symbol needed.
@@ -90,7 +90,7 @@ pub extern "C" fn ortkaveq_send_b(
 ) -> Answer
     ensures { λ r. ⌜ SendBCall mode (now (frame .entry)) (now (scheme .entry)) (now (i .entry)) (now (q .entry)) r (now (i .exit)) (now (q .exit)) ⌝ }
 {
-    payloads::of_sent(payload_b::send_b(mode, frame, scheme, i, q))
+    payloads::of_sent(sender_b::send_b(mode, frame, scheme, i, q))
 }
 
 // Receives a frame of Payload B, of so many bytes: writes them to the first of the area.
@@ -105,7 +105,7 @@ pub extern "C" fn ortkaveq_receive_b(
 ) -> Answer
     ensures { λ r. ⌜ ReceiveBCall mode size (now (scheme .entry)) (now (i .entry)) (now (q .entry)) (now (area .entry)) r (now (area .exit)) ⌝ }
 {
-    payloads::of_received_b(payload_b::receive_b(mode, size, scheme, i, q, area))
+    payloads::of_received_b(receiver_b::receive_b(mode, size, scheme, i, q, area))
 }
 
 // Success, with this count.

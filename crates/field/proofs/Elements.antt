@@ -14,7 +14,7 @@ use Rattle.algebra.proofs.Fields.{Field2}
 use Rattle.field.specs.Field.{element, sum, product, inverse}
 use Rattle.field.proofs.Sums.{sum-lt, sum-comm, sum-assoc, sum-self, sum-0, sum-element}
 use Rattle.field.proofs.Products.{product-lt, product-comm, product-assoc, product-sum, 1-product, product-element}
-use Rattle.field.proofs.Inverses.{product-inverse, inverse-lt, inverse-element}
+use Rattle.field.proofs.Inverses.{product-inverse, inverse-lt}
 
 -- ---- numbers below 512
 
@@ -65,17 +65,9 @@ pub number : GF512 .Element → ℕ
 unfolding GF512
 number u = u .0
 
-pub number-lt : (u : GF512 .Element) → number u < 512
-unfolding GF512 number
-number-lt u = u .1
-
 pub number-of : (x : ℕ) → number (element-of x) ≡ element x
 unfolding number element-of
 number-of x = refl
-
-pub of-number : (u : GF512 .Element) → element-of (number u) ≡ u
-unfolding GF512 number element-of
-of-number u = same (low u)
 
 pub of-0 : element-of 0 ≡ GF512 .zero
 unfolding GF512 element-of
@@ -84,10 +76,6 @@ of-0 = same refl
 pub of-1 : element-of 1 ≡ GF512 .one
 unfolding GF512 element-of
 of-1 = same refl
-
-pub of-element : (x : ℕ) → element-of (element x) ≡ element-of x
-unfolding GF512 element-of
-of-element x = same (mod-eq-of-lt (mod-lt x (lit< tt)))
 
 pub of-sum : (x y : ℕ) → element-of (sum x y) ≡ GF512 .add (element-of x) (element-of y)
 unfolding GF512 element-of
@@ -101,10 +89,6 @@ of-xor x y = same (xor-mod x y 9 ∙ sym (sum-element x y))
 pub of-product : (x y : ℕ) → element-of (product x y) ≡ GF512 .mul (element-of x) (element-of y)
 unfolding GF512 element-of
 of-product x y = same (mod-eq-of-lt (product-lt x y) ∙ sym (product-element x y))
-
-pub of-inverse : (x : ℕ) → element-of (inverse x) ≡ GF512 .inv (element-of x)
-unfolding GF512 element-of
-of-inverse x = same (mod-eq-of-lt (inverse-lt x) ∙ sym (inverse-element x))
 
 -- a number stands for zero exactly where its nine low digits are 0
 pub of-zero : (x : ℕ) → element-of x ≡ GF512 .zero → element x ≡ 0

@@ -29,7 +29,7 @@ unfolding inverse raised
 inverse-0 = 0-product (raised 0 509)
 
 -- the logarithms of an element and its inverse add up to 511
-pub inverse-log : (x : ℕ) → x ≢ 0 → x < 512 → inverse x ≡ power (511 - log x)
+inverse-log : (x : ℕ) → x ≢ 0 → x < 512 → inverse x ≡ power (511 - log x)
 unfolding inverse
 inverse-log x z h =
     let l : log x < 511 = log-lt x z h in
@@ -38,7 +38,7 @@ inverse-log x z h =
     ap (λ (y : ℕ). raised y 510) (sym (power-log x z h)) ∙ raised-power (log x) 510
     ∙ sym (power-again 1 (510 * log x)) ∙ ap power (sym e' ∙ e) ∙ power-again (log x) (511 - log x)
 
-pub inverse-element : (x : ℕ) → inverse (element x) ≡ inverse x
+inverse-element : (x : ℕ) → inverse (element x) ≡ inverse x
 unfolding inverse
 inverse-element x = raised-element x 510
 

@@ -5,8 +5,8 @@ use Prim.Native.Nat.{ℕ, zero, suc, _*_, _/_, _%_, _^_, _<_, suc-le-suc}
 use native.Mathlib.Nat.{zero-lt-suc, pow-suc, div-lt-iff-lt-mul}
 use lib.Arith.{lt-one}
 use lib.Bits.{bitXor, xor-self}
-use lib.Dec.{T, eqb, eqb→eq}
-use Rattle.ground.proofs.Tests.{all, all-at}
+use lib.Dec.{T, eqb}
+use Rattle.ground.proofs.Tests.{all, all-at, all-equal}
 use Rattle.ground.proofs.Xors.{by-digit, xor-cancel, xor-double, xor-split}
 
 abbrev pub Additive : (ℕ → ℕ) → Type 0
@@ -34,7 +34,7 @@ basis (suc k) f g hf hg e a h =
 -- the test for functions of one, two and three arguments, additive in each
 pub basis₁ : (k : ℕ) (f g : ℕ → ℕ) → Additive f → Additive g → T (all k (λ i. eqb (f (2 ^ i)) (g (2 ^ i)))) → (a : ℕ) → a < 2 ^ k → f a ≡ g a
 basis₁ k f g hf hg t =
-    basis k f g hf hg (λ i hi. eqb→eq (f (2 ^ i)) (g (2 ^ i)) (all-at k (λ m. eqb (f (2 ^ m)) (g (2 ^ m))) t i hi))
+    basis k f g hf hg (all-equal k (λ i. f (2 ^ i)) (λ i. g (2 ^ i)) t)
 
 abbrev pub Additive₂ : (ℕ → ℕ → ℕ) → Type 0
 Additive₂ f = ((b : ℕ) → Additive (λ (a : ℕ). f a b)) × ((a : ℕ) → Additive (f a))

@@ -1,19 +1,19 @@
 -- Logarithms: every element but 0 is a^i for exactly one i below 511, and the logarithm of a product is the sum of the logarithms.
 -- Assumes nothing.
 use mathlib.Core.Path.{_≡_, refl, sym, ap, ap₂, _∙_, subst}
-use mathlib.Core.Bool.{Bool}
+use mathlib.Core.Bool.{Bool, not, _&&_}
 use mathlib.Core.Logic.{_≢_}
-use Prim.Native.Nat.{ℕ, zero, suc, _+_, _<_, min}
+use Prim.Native.Nat.{ℕ, zero, suc, _+_, _-_, _*_, _<_, min}
 use native.Mathlib.Nat.{mod-lt}
-use native.Mathlib.Decide.{ℕ-discrete}
+use native.Mathlib.Decide.{ℕ-discrete, decLt}
 use native.Mathlib.Omega.{arith}
 use lib.Dec.{T, eqb, ltb, eqb→eq, ltb→lt, lit<}
 use lib.ListN.{length, getD}
-use Rattle.ground.proofs.Tests.{both, both-left, both-right, all, all-at, every, every-at}
+use Rattle.ground.proofs.Tests.{both, all, all-at, every, every-at}
 use Rattle.field.specs.Field.{element, shifted, power, product}
 use Rattle.field.specs.Tables.{powersFrom, placeFrom, listed, logTable, powerTable, productFrom}
 use Rattle.field.proofs.Products.{product-element, product-0, 0-product}
-use Rattle.field.proofs.Powers.{powers-at, product-power, power-table-at, power-table-last}
+use Rattle.field.proofs.Powers.{power-511, power-again, powers-at, product-power, power-table-at, power-table-last}
 
 unfoldable pub log : ℕ → ℕ
 log x = getD logTable x 0
@@ -22,7 +22,7 @@ log x = getD logTable x 0
 
 right : ℕ → ℕ → Bool
 right zero i = eqb i 1021
-right (suc x) i = both (ltb i 511) (eqb (getD (powersFrom 511 1) i 0) (suc x))
+right (suc x) i = ltb i 511 && eqb (getD (powersFrom 511 1) i 0) (suc x)
 
 table-test : T (every right 0 logTable)
 unfolding right logTable listed placeFrom powersFrom shifted
@@ -45,9 +45,9 @@ unfolding right
 log-is zero z h = absurd (z refl)
 log-is (suc x) z h =
     let i = log (suc x) in
-    let low : i < 511 = ltb→lt i 511 (both-left (ltb i 511) (eqb (getD (powersFrom 511 1) i 0) (suc x)) (entry (suc x) h)) in
-    let hit = both-right (ltb i 511) (eqb (getD (powersFrom 511 1) i 0) (suc x)) (entry (suc x) h) in
-    (low, sym (powers-at 511 i low) ∙ eqb→eq (getD (powersFrom 511 1) i 0) (suc x) hit)
+    let passed = both (ltb i 511) (eqb (getD (powersFrom 511 1) i 0) (suc x)) (entry (suc x) h) in
+    let low : i < 511 = ltb→lt i 511 (passed .0) in
+    (low, sym (powers-at 511 i low) ∙ eqb→eq (getD (powersFrom 511 1) i 0) (suc x) (passed .1))
 
 pub log-lt : (x : ℕ) → x ≢ 0 → x < 512 → log x < 511
 log-lt x z h = log-is x z h .0
@@ -55,18 +55,30 @@ log-lt x z h = log-is x z h .0
 pub power-log : (x : ℕ) → x ≢ 0 → x < 512 → power (log x) ≡ x
 power-log x z h = log-is x z h .1
 
-power-test : T (all 511 (λ i. eqb (getD logTable (getD (powersFrom 511 1) i 0) 0) i))
-unfolding logTable listed placeFrom powersFrom shifted
+-- ---- the powers below 511 differ
+
+-- none of a^1 to a^510 is 1
+power-test : T (all 510 (λ i. not (eqb (getD (powersFrom 511 1) (suc i) 0) 1)))
+unfolding powersFrom shifted
 power-test = tt
 
-pub log-power : (i : ℕ) → i < 511 → log (power i) ≡ i
-unfolding log
-log-power i h =
-    ap (λ (x : ℕ). getD logTable x 0) (sym (powers-at 511 i h))
-    ∙ eqb→eq _ i (all-at 511 (λ i. eqb (getD logTable (getD (powersFrom 511 1) i 0) 0) i) power-test i h)
+-- of equal powers a^i and a^j, a^(j - i) would be 1
+pub power-ne : (i j : ℕ) → i < j → j < 511 → power i ≢ power j
+power-ne i j l h e =
+    let k = j - suc i in
+    let round : 511 - i + j ≡ 1 * 511 + suc k = omega arith in
+    let whole : 511 - i + i ≡ 511 = omega arith in
+    let one : power (suc k) ≡ 1 = sym (power-again 1 (suc k)) ∙ ap power (sym round) ∙ sym (product-power (511 - i) j)
+    ∙ ap (product (power (511 - i))) (sym e) ∙ product-power (511 - i) i ∙ ap power whole ∙ power-511 in
+    rw (powers-at 511 (suc k) (omega arith), one) at (all-at 510 (λ i. not (eqb (getD (powersFrom 511 1) (suc i) 0) 1)) power-test k (omega arith))
 
 pub power-inj : (i j : ℕ) → i < 511 → j < 511 → power i ≡ power j → i ≡ j
-power-inj i j hi hj e = sym (log-power i hi) ∙ ap log e ∙ log-power j hj
+power-inj i j hi hj e = go (decLt i j) (decLt j i)
+  where
+    go : Dec (i < j) → Dec (j < i) → i ≡ j
+    go (yes l) _ = absurd (power-ne i j l hj e)
+    go (no _) (yes l) = absurd (power-ne j i l hi (sym e))
+    go (no k) (no l) = omega arith
 
 -- ---- the product by logarithms
 

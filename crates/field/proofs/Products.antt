@@ -28,7 +28,7 @@ digit-right a b c =
     by-digit (λ (x : ℕ). x * bitXor b c ≡ bitXor (x * b) (x * c)) (zero-mul (bitXor b c) ∙ sym (ap₂ bitXor (zero-mul b) (zero-mul c)))
     (one-mul (bitXor b c) ∙ sym (ap₂ bitXor (one-mul b) (one-mul c))) a
 
-pub shifted-add : Additive shifted
+shifted-add : Additive shifted
 unfolding shifted
 shifted-add a b =
     ap₂ bitXor

@@ -14,7 +14,7 @@ use Rattle.algebra.proofs.Places.{Distinct}
 use Rattle.algebra.proofs.Powers.{pow, pow-zero, pow-suc, pow-add, pow-ne-zero}
 use Rattle.field.specs.Field.{power}
 use Rattle.field.proofs.Powers.{power-0, power-suc, power-511, power-lt}
-use Rattle.field.proofs.Logarithms.{power-inj}
+use Rattle.field.proofs.Logarithms.{power-ne}
 use Rattle.field.proofs.Elements.{GF512, element-of, number, number-of, of-1, of-zero, of-product, of-xor}
 open Field2 GF512 using (Element, zero as 𝟘, one as 𝟙, add as _⊕_, mul as _⊗_, inv)
 
@@ -37,10 +37,6 @@ value x bs = valueFrom (GF512 .zero) x bs
 pub a : GF512 .Element
 a = element-of 2
 
-pub a-is : a ≡ element-of 2
-unfolding a
-a-is = refl
-
 -- ---- the powers of a
 
 pub of-inj : (x y : ℕ) → x < 512 → y < 512 → element-of x ≡ element-of y → x ≡ y
@@ -58,9 +54,7 @@ a-nonzero e = let z : _≡_ {A = ℕ} 2 0 = of-zero 2 e in omega arith
 -- no two of the powers below 511 are equal
 pub a-differ : (n : ℕ) → n ≤ 511 → Distinct n (pow GF512 a)
 a-differ n m i j l k e =
-    let h : element-of (power i) ≡ element-of (power j) = of-power i ∙ e ∙ sym (of-power j) in
-    let s = power-inj i j (omega arith) (omega arith) (of-inj (power i) (power j) (power-lt i) (power-lt j) h) in
-    omega arith
+    power-ne i j l (omega arith) (of-inj (power i) (power j) (power-lt i) (power-lt j) (of-power i ∙ e ∙ sym (of-power j)))
 
 inv-unique : (u v : Element) → u ≢ 𝟘 → u ⊗ v ≡ 𝟙 → inv u ≡ v
 inv-unique u v z h =

@@ -82,12 +82,14 @@ fn power_at(powers: &[u16; 1022], i: usize) -> u16
     powers[least(i, 1021)]
 }
 
+// The lesser of i and j.
 fn least(i: usize, j: usize) -> usize
     ensures { λ r. ⌜ (r ≡ min i j) × (r ≤ j) ⌝ }
 {
     if i < j { i } else { j }
 }
 
+// x, as a place in a table is counted.
 fn wide(x: u16) -> usize
     ensures { λ r. ⌜ (r ≡ x) × (r < 65536) ⌝ }
 {

@@ -1,2 +1,2 @@
-// What every floor stands on: laws of sums without carries, of lists, and of tests that the checker computes over whole tables.
-// It has no code: proofs/ is the whole crate, a file for each subject.
+// What the floors above stand on: the first element that a test finds, and laws of it, of sums without carries, and of tests that the checker
+// computes over whole tables. It has no code: specs/ and proofs/ are the whole crate, a file for each subject.

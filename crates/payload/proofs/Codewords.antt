@@ -8,11 +8,9 @@ use native.Mathlib.Omega.{arith}
 use lib.ListN.{length, take, drop}
 use lib.Seq.{take-at}
 use Rattle.bch.proofs.Checks.{all-pass}
-use Rattle.bch.proofs.Mendings.{none-bad, encoded-codeword}
-use Rattle.bch.proofs.Uniqueness.{unique}
+use Rattle.bch.proofs.Mendings.{none-bad, only-codeword, encoding-codeword}
 use Rattle.bch.specs.Answers.{numberOf}
 use Rattle.bch.specs.Codes.{Code, known, named, encoded, Within}
-use Rattle.bch.specs.Held.{Rooted}
 use Rattle.bch.specs.Promise.{Encodes, Encoding, passes, Mended, Hopeless, Decodes, Decoding}
 use Rattle.bch.specs.Words.{Bits, differ}
 use Rattle.bch.specs.declared.Decoded.the-variants.{Accepted, Refused}
@@ -62,8 +60,8 @@ unfolding encoded
 information-of c m long = take-at m _ (c .k) long
 
 -- information whose codeword lies within t of a word is that of the codeword within t
-pub told : {c : Code} → Rooted c → {a v : List ℕ} → length a ≡ c .n → Within c a v → (m : List ℕ) → Bits m → length m ≡ c .k
+pub told : (number : ℕ) {c : Code} → named number ≡ known c → {a v : List ℕ} → length a ≡ c .n → Within c a v → (m : List ℕ) → Bits m → length m ≡ c .k
     → differ (encoded c m) a ≤ c .t → m ≡ take (c .k) v
-told {c} rooted {a} {v} row within m bits long near =
-    let same : encoded c m ≡ v = unique rooted row (record { codeword = encoded-codeword rooted m bits long; near = near }) within in
+told number {c} code {a} {v} row within m bits long near =
+    let same : encoded c m ≡ v = only-codeword number code row (record { codeword = encoding-codeword number code m bits long; near = near }) within in
     sym (information-of c m long) ∙ ap (take (c .k)) same

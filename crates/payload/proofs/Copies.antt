@@ -9,6 +9,7 @@ use borrow.Rule.Slice.PartMut.{putMid, postOf}
 use lib.ListN.{length, take, drop, set, replicate, length-append, length-drop, drop-of-length-le}
 use lib.Seq.{take-at, take-length, drop-drop, length-take-le}
 use Rattle.bch.specs.Words.{Bits}
+use Rattle.bch.proofs.Parts.{copied}
 
 module _ (a k : ℕ) (xs : List ℕ) (fits : a + k ≤ length xs) where
   -- the part is as long as it should be
@@ -24,6 +25,10 @@ module _ (a k : ℕ) (xs : List ℕ) (fits : a + k ≤ length xs) where
 -- what `bytes::copy` leaves in a list as long
 copied-all : (bits part : List ℕ) → length part ≡ length bits → take (length bits) bits ++ drop (length bits) part ≡ bits
 copied-all bits part e = ap₂ _++_ (take-length bits) (drop-of-length-le part {i = length bits} (rw e (le-refl (length bits)))) ∙ append-nil bits
+
+-- and at the front of a longer list
+pub front-copied : (m out after : List ℕ) (n : ℕ) → length m ≡ n → after ≡ take (length m) m ++ drop (length m) out → take n after ≡ m
+front-copied m out after n long e = ap (take n) (e ∙ copied m out n long) ∙ take-at m (drop n out) n long
 
 module _ (out bits : List ℕ) (at : ℕ) (fits : at + length bits ≤ length out) where
   -- bits put into a list, from `at` on

@@ -3,22 +3,16 @@
 use mathlib.Core.Path.{_≡_, refl, sym, ap, ap₂, _∙_}
 use mathlib.Core.List.{List, [], _∷_, _++_, append-nil, append-assoc}
 use Prim.Native.Nat.{ℕ, zero, suc, _+_, _*_, _/_, _%_, _^_, _≤_, _<_}
-use native.Mathlib.Nat.{add-zero, div-one, mod-one, mod-eq-of-lt}
+use native.Mathlib.Nat.{add-zero, mod-one, mod-eq-of-lt}
 use native.Mathlib.Numerals.{one-add}
 use native.Mathlib.Omega.{arith}
 use lib.ListN.{length}
-use lib.Pow.{shr-shr, mod-pow-add, pow-mono}
+use lib.Pow.{mod-pow-add, pow-mono}
 use Rattle.bch.specs.Words.{Bits, digits}
-use Rattle.bch.proofs.Digits.{length-digits, digits-bits}
+use Rattle.bch.proofs.Digits.{digits-last}
 use Rattle.payload.specs.Bits.{numberFrom, number}
 
--- the lowest digit stands last
-pub digits-last : (r x : ℕ) → digits (suc r) x ≡ digits r (x / 2) ++ (x % 2 ∷ [])
-unfolding digits
-digits-last zero x = ap (λ (n : ℕ). n % 2 ∷ []) (div-one x)
-digits-last (suc r) x = ap₂ _∷_ (ap (λ (n : ℕ). n % 2) (rw one-add at (sym (shr-shr x 1 r)))) (digits-last r x)
-
-pub digits-snoc : (r x b : ℕ) → b < 2 → digits (suc r) (x * 2 + b) ≡ digits r x ++ (b ∷ [])
+digits-snoc : (r x b : ℕ) → b < 2 → digits (suc r) (x * 2 + b) ≡ digits r x ++ (b ∷ [])
 digits-snoc r x b h =
     let d : (x * 2 + b) / 2 ≡ x = omega arith in
     let m : (x * 2 + b) % 2 ≡ b = omega arith in
@@ -89,10 +83,3 @@ pub number-read : (bits : List ℕ) (x : ℕ) → Bits bits → length bits ≤ 
 number-read bits x h l e =
     let same : x ≡ number bits = e ∙ number-fits bits l in
     (ap (digits (length bits)) same ∙ digits-number bits h, omega (arith, same, number-low (length bits) bits (omega arith)))
-
--- and a number is that of its digits
-pub number-digits : (n x : ℕ) → x < 2 ^ n → number (digits n x) ≡ x
-number-digits n x l =
-    let ds = digits n x in
-    let back : digits n (number ds) ≡ ds = ap (λ (m : ℕ). digits m (number ds)) (sym (length-digits n x)) ∙ digits-number ds (digits-bits n x) in
-    digits-inj n (number ds) x (number-low n ds (omega (arith, length-digits n x))) l back

@@ -64,13 +64,13 @@ bytesOf-snoc (suc n) bits =
     ap (λ (l : List ℕ). number (take 8 bits) ∷ l)
     (bytesOf-snoc n (drop 8 bits) ∙ ap (λ (l : List ℕ). bytesOf n (drop 8 bits) ++ (number (take 8 l) ∷ [])) (drop-drop (8 * n) 8 bits ∙ ap (λ (m : ℕ). drop m bits) (sym e)))
 
-pub length-bytesOf : (n : ℕ) (bits : List ℕ) → length (bytesOf n bits) ≡ n
+length-bytesOf : (n : ℕ) (bits : List ℕ) → length (bytesOf n bits) ≡ n
 unfolding bytesOf
 length-bytesOf zero bits = refl
 length-bytesOf (suc n) bits = ap suc (length-bytesOf n (drop 8 bits))
 
 -- bits are those of their bytes
-pub bits-of-bytes : (n : ℕ) (bits : List ℕ) → Bits bits → length bits ≡ 8 * n → bitsOf (bytesOf n bits) ≡ bits
+bits-of-bytes : (n : ℕ) (bits : List ℕ) → Bits bits → length bits ≡ 8 * n → bitsOf (bytesOf n bits) ≡ bits
 unfolding bytesOf bitsOf
 bits-of-bytes zero bits h long = take-all 0 bits (omega arith)
 bits-of-bytes (suc n) bits h long =

@@ -43,7 +43,7 @@ levels-at levels k (suc n) zero h = ap (λ (j : ℕ). levelOn levels (carrierAt 
 levels-at levels k (suc n) (suc i) h =
     levels-at levels (suc k) n i (omega arith) ∙ ap (λ (j : ℕ). levelOn levels (carrierAt j)) (omega arith)
 
-pub spread-at : (levels : List ℤ) (k : ℕ) → k < 256 → getD (spread levels) k (pos 0) ≡ levelOn levels (carrierAt k)
+spread-at : (levels : List ℤ) (k : ℕ) → k < 256 → getD (spread levels) k (pos 0) ≡ levelOn levels (carrierAt k)
 unfolding spread
 spread-at levels k h = levels-at levels 0 256 k h ∙ ap (λ (j : ℕ). levelOn levels (carrierAt j)) (omega arith)
 
@@ -138,7 +138,7 @@ module _ (level : Point → ℤ) (none : level Nothing ≡ pos 0) where
           ∙ getD-behind (spread (map level (take 210 ps))) _ 256 (indexOf place) (pos 0) (length-spread (map level (take 210 ps)))
           ∙ rest place (omega arith) ∙ ap level (getD-drop 210 ps place Nothing)
 
-  pub placed-at : (m : ℕ) (ps : List Point) (place : ℕ) → place < 210 * m → getD (placed level m ps) (indexOf place) (pos 0) ≡ level (getD ps place Nothing)
+  placed-at : (m : ℕ) (ps : List Point) (place : ℕ) → place < 210 * m → getD (placed level m ps) (indexOf place) (pos 0) ≡ level (getD ps place Nothing)
   placed-at zero ps place h = absurd (omega arith)
   placed-at (suc m) ps place h = one-placed m ps (placed-at m (drop 210 ps)) place h
 

@@ -9,9 +9,11 @@ use native.Mathlib.Omega.{arith}
 use lib.IntN.{ℤ, pos}
 use lib.ListN.{length, getD, take, drop, length-append, List·getD-append}
 use lib.Seq.{getD-take, getD-drop, drop-drop, ext-getD}
+use Rattle.ground.specs.First.{firstIn, upFrom}
+use Rattle.ground.proofs.Firsts.{first-none, length-up, up-at}
 use Rattle.points.specs.declared.Point.the-variants.{At, Nothing}
 use Rattle.points.specs.Grid.{carrierAt, placeOf}
-use Rattle.payload.specs.Grids.{pointAt, pointsFrom, received, indexOf, filled, firstFilled}
+use Rattle.payload.specs.Grids.{pointAt, pointsFrom, received, indexOf, filled, filledAt, firstFilled}
 use Rattle.payload.proofs.Indices.{index-lt, index-first, index-later, by-parts, getD-behind}
 
 -- ---- a point of a part of the grid
@@ -70,10 +72,9 @@ received-at (suc m) is qs place h = one-more m is qs (received-at m (drop 256 is
 -- ---- the sub-carriers that must be empty
 
 pub none-filled : (is qs : List ℤ) (k n : ℕ) → ((j : ℕ) → k ≤ j → j < k + n → filled (carrierAt (j % 256)) (getD is j (pos 0)) (getD qs j (pos 0)) ≡ false) → firstFilled is qs k n ≡ n
-unfolding firstFilled
-none-filled is qs k zero e = refl
-none-filled is qs k (suc n) e =
-    rw (e k (omega arith) (omega arith), none-filled is qs (suc k) n (λ j l h. e j (omega arith) (omega arith)))
+none-filled is qs k n e =
+    let long = length-up k n in
+    first-none (filledAt is qs) 0 (upFrom k n) (λ i h. rw (up-at k n i (omega arith)) (e (k + i) (omega arith) (omega arith))) ∙ long
 
 -- ---- nothing beyond is looked at
 
@@ -90,7 +91,7 @@ received-take m n is qs l =
     received-same m (take n is) (take n qs) is qs (λ k h. point-take is qs n k (omega arith))
 
 pub filled-take : (n : ℕ) (is qs : List ℤ) (k j : ℕ) → k + j ≤ n → firstFilled (take n is) (take n qs) k j ≡ firstFilled is qs k j
-unfolding firstFilled
+unfolding firstIn upFrom
 filled-take n is qs k zero l = refl
 filled-take n is qs k (suc j) l =
     rw (getD-take n is k (pos 0) (omega arith), getD-take n qs k (pos 0) (omega arith), filled-take n is qs (suc k) j (omega arith))

@@ -1,13 +1,15 @@
--- Scrambled words: as long as the words, bits where those are, joined where those are joined, and the words back when scrambled again; and the register.
+-- Scrambled words: as long as the words, bits where those are, joined where those are joined, and the words back when scrambled again; the register;
+-- and bits scrambled where they stand, at the front of a list.
 -- Assumes nothing.
 use mathlib.Core.Path.{_≡_, refl, sym, ap, _∙_}
 use mathlib.Core.List.{List, [], _∷_, _++_}
-use Prim.Native.Nat.{ℕ, zero, suc, _+_, _/_, _%_, _^_, _<_}
+use Prim.Native.Nat.{ℕ, zero, suc, _+_, _/_, _%_, _^_, _≤_, _<_}
 use native.Mathlib.Nat.{zero-add, mod-lt}
 use native.Mathlib.Omega.{arith}
 use lib.Bits.{xor-lt}
 use lib.Dec.{lit<}
-use lib.ListN.{length}
+use lib.ListN.{length, take, length-append}
+use lib.Seq.{take-at, length-take-le}
 use Rattle.bch.specs.Words.{Bits}
 use Rattle.ground.proofs.Xors.{xor-cancel}
 use Rattle.payload.specs.Scrambler.{formed, shifted, scrambledFrom, registerAfter}
@@ -47,3 +49,21 @@ register-more zero n r = ap (λ (k : ℕ). registerAfter k r) (zero-add n)
 register-more (suc m) n r =
     let e : suc m + n ≡ suc (m + n) = omega arith in
     ap (λ (k : ℕ). registerAfter k r) e ∙ register-more m n (shifted r)
+
+-- ---- scrambled at the front of a list
+
+module _ (word part rest : List ℕ) (register k : ℕ) (room : k ≤ length word) (e : part ≡ scrambledFrom register (take k word)) where
+  part-long : length part ≡ k
+  part-long = ap length e ∙ length-scrambled register (take k word) ∙ length-take-le k word room
+
+  pub front-scrambled : take k (part ++ rest) ≡ scrambledFrom register (take k word)
+  front-scrambled = take-at part rest k part-long ∙ e
+
+  pub front-room : k ≤ length (part ++ rest)
+  front-room = omega (arith, part-long, length-append part rest)
+
+  pub front-long : length (take k (part ++ rest)) ≡ k
+  front-long = length-take-le k (part ++ rest) front-room
+
+  pub front-bits : Bits (take k word) → Bits (take k (part ++ rest))
+  front-bits bits = rw front-scrambled (bits-scrambled register (take k word) bits)

@@ -1,10 +1,11 @@
 -- Grids of points: two lists of levels, 256 of each to an OFDM symbol; index = 256 times symbol, plus k (document 01, "Bits, lengths and grids").
 -- Assumes nothing.
-use mathlib.Core.Bool.{Bool, false, not, cond, _&&_}
+use mathlib.Core.Bool.{Bool, false, not, _&&_}
 use mathlib.Core.List.{List, [], _∷_, _++_, map}
 use Prim.Native.Nat.{ℕ, zero, suc, _+_, _*_, _/_, _%_}
 use lib.IntN.{ℤ, pos}
 use lib.ListN.{getD, take, drop}
+use Rattle.ground.specs.First.{firstIn, upFrom}
 use Rattle.points.specs.declared.Point.{Point}
 use Rattle.points.specs.declared.Point.the-variants.{At}
 use Rattle.points.specs.declared.Carrier.{Carrier}
@@ -53,12 +54,15 @@ received (suc m) is qs = pointsFrom is qs 1 210 ++ received m (drop 256 is) (dro
 unfoldable pub indexOf : ℕ → ℕ
 indexOf place = 256 * (place / 210) + placeOf (suc (place % 210))
 
--- whether an unavailable sub-carrier k has a point other than (0, 0)
+-- whether a sub-carrier is unavailable and has a point, (i, q), other than (0, 0)
 abbrev pub filled : Carrier → ℤ → ℤ → Bool
 filled (Holds s) i q = false
 filled Empty i q = not (same i (pos 0) && same q (pos 0))
 
--- how many grid indices come before the first such sub-carrier, of n from index k on; n where there is none
-unfoldable pub firstFilled : List ℤ → List ℤ → ℕ → ℕ → ℕ
-firstFilled is qs k zero = 0
-firstFilled is qs k (suc n) = cond (filled (carrierAt (k % 256)) (getD is k (pos 0)) (getD qs k (pos 0))) 0 (suc (firstFilled is qs (suc k) n))
+-- whether the sub-carrier of a grid index is such a one
+abbrev pub filledAt : List ℤ → List ℤ → ℕ → Bool
+filledAt is qs k = filled (carrierAt (k % 256)) (getD is k (pos 0)) (getD qs k (pos 0))
+
+-- how many grid indices come before the first such one, of n from index k on; n where there is none
+abbrev pub firstFilled : List ℤ → List ℤ → ℕ → ℕ → ℕ
+firstFilled is qs k n = firstIn (filledAt is qs) (upFrom k n)

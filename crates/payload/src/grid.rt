@@ -35,7 +35,7 @@ fn level_on(levels: &[i16], k: usize) -> i16
     }
 }
 
-// Puts levels in s order onto the sub-carriers, as many as out has places: 256 to an OFDM symbol.
+// Puts levels in s order onto the 256 sub-carriers of one OFDM symbol: those that out has places for, and zeros beyond them.
 pub fn put_levels(levels: &[i16], out: &mut [i16])
     ensures { λ _. ⌜ now (out .exit) ≡ levelsFrom (now (levels .entry)) 0 (length (now (out .entry))) ⌝ }
 {

@@ -1,14 +1,18 @@
--- A message and its check: 32 bits more, bits where the message is, and the two told apart again.
+-- A message and its check: the check of bits, 32 bits more, bits where the message is, and the two told apart again.
 -- Assumes nothing.
 use mathlib.Core.Path.{_≡_, sym, ap, _∙_}
 use mathlib.Core.List.{List, _++_}
 use Prim.Native.Nat.{ℕ, _+_}
 use lib.ListN.{length, take, drop, length-append, take-append-drop}
 use lib.Seq.{take-at, drop-at}
-use Rattle.bch.specs.Words.{Bits, digits}
-use Rattle.bch.proofs.Digits.{length-digits, digits-bits}
+use Rattle.bch.specs.Words.{Bits, lowest, digits}
+use Rattle.bch.proofs.Digits.{length-digits, digits-bits, lowest-same}
 use Rattle.bch.proofs.Mendings.{bits-append}
 use Rattle.payload_a.specs.Check.{checkOf, checked}
+
+-- what is formed of bits is their check
+pub check-read : (m : List ℕ) (x : ℕ) → Bits m → x ≡ checkOf (lowest m) → x ≡ checkOf m
+check-read m x h e = e ∙ ap checkOf (lowest-same m h)
 
 pub length-checked : (m : List ℕ) → length (checked m) ≡ length m + 32
 unfolding checked

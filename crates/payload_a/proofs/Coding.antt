@@ -1,18 +1,17 @@
 -- The 784 bits sent for a frame of Payload A: its information, of a coded frame the two codewords, and their halves.
 -- Assumes nothing.
 use mathlib.Core.Path.{_≡_, refl, sym, ap, ap₂, _∙_}
-use mathlib.Core.List.{List, _++_}
+use mathlib.Core.List.{List, _++_, append-nil}
 use Prim.Native.Nat.{ℕ, zero, suc, _+_, _*_, _≤_, _<_}
 use native.Mathlib.Omega.{arith}
 use borrow.Author.Tests.{ne-eqb}
-use lib.ListN.{length, take, drop, length-append, length-drop, take-append-drop}
+use lib.ListN.{length, take, drop, drop-of-length-le, length-append, length-drop, take-append-drop}
 use lib.Seq.{take-at, drop-at, length-take-le}
 use Rattle.bch.specs.Words.{Bits, differ}
 use Rattle.bch.specs.Codes.{code3, encoded, Codeword}
 use Rattle.bch.proofs.Digits.{bits-take, bits-drop}
 use Rattle.bch.proofs.Distances.{differ-zero}
-use Rattle.bch.proofs.Generators.{rooted3}
-use Rattle.bch.proofs.Mendings.{bits-append, encoded-codeword}
+use Rattle.bch.proofs.Mendings.{bits-append, encoding-codeword}
 use Rattle.payload.specs.Bits.{bitsOf}
 use Rattle.payload.specs.Scrambler.{start, scrambled}
 use Rattle.payload_a.specs.Check.{checked}
@@ -43,10 +42,10 @@ module _ (frame : List ℕ) (long : length frame ≡ 58) where
   second-long = length-drop 248 (information frame) ∙ omega (arith, length-information frame)
 
   pub first-codeword : Codeword code3 (encoded code3 (take 248 (information frame)))
-  first-codeword = encoded-codeword rooted3 (take 248 (information frame)) (bits-take 248 (information frame) (bits-information frame)) first-long
+  first-codeword = encoding-codeword 3 refl (take 248 (information frame)) (bits-take 248 (information frame) (bits-information frame)) first-long
 
   pub second-codeword : Codeword code3 (encoded code3 (drop 248 (information frame)))
-  second-codeword = encoded-codeword rooted3 (drop 248 (information frame)) (bits-drop 248 (information frame) (bits-information frame)) second-long
+  second-codeword = encoding-codeword 3 refl (drop 248 (information frame)) (bits-drop 248 (information frame) (bits-information frame)) second-long
 
 -- ---- both modes
 
@@ -55,7 +54,7 @@ unfolding codedA
 coded-uncoded frame = refl
 
 -- every mode but 0 is coded alike; the checks let 1 alone pass
-pub coded-twice : (m : ℕ) (frame : List ℕ) → codedA (suc m) frame ≡ encoded code3 (take 248 (information frame)) ++ encoded code3 (drop 248 (information frame))
+coded-twice : (m : ℕ) (frame : List ℕ) → codedA (suc m) frame ≡ encoded code3 (take 248 (information frame)) ++ encoded code3 (drop 248 (information frame))
 unfolding codedA blocksA
 coded-twice m frame = rw (ne-eqb (suc m) 0 (λ e. omega arith)) refl
 
@@ -81,24 +80,22 @@ first-half a b e = take-at a b 392 e
 pub second-half : (a b : List ℕ) → length a ≡ 392 → half 1 (a ++ b) ≡ b
 second-half a b e = drop-at a b 392 e
 
+-- what is written to a list of 392 fills it
+pub filled : (v out : List ℕ) → length out ≡ 392 → v ++ drop 392 out ≡ v
+filled v out l = ap (λ (rest : List ℕ). v ++ rest) (drop-of-length-le out {i = 392} (omega arith)) ∙ append-nil v
+
 -- what holds of both halves
 pub each-half : (P : ℕ → Type 0) → P 0 → P 1 → (block : ℕ) → block < 2 → P block
 each-half P p q zero l = p
 each-half P p q (suc zero) l = q
 each-half P p q (suc (suc block)) l = absurd (omega arith)
 
-module _ (w : List ℕ) (l : length w ≡ 784) where
-  pub half-long : (block : ℕ) → block < 2 → length (half block w) ≡ 392
-  half-long =
-      each-half (λ block. length (half block w) ≡ 392) (length-take-le 392 w (omega arith)) (length-drop 392 w ∙ omega arith)
-
-  -- words that differ in no place of either half
-  pub halves-same : (v : List ℕ) → length v ≡ 784 → ((block : ℕ) → block < 2 → differ (half block v) (half block w) ≤ 0) → v ≡ w
-  halves-same v k near =
-      let a : take 392 v ≡ take 392 w
-      = differ-zero (take 392 v) (take 392 w) (length-take-le 392 v (omega arith) ∙ sym (half-long 0 (omega arith))) (omega (arith, near 0 (omega arith))) in
-      let b : drop 392 v ≡ drop 392 w = differ-zero (drop 392 v) (drop 392 w) (simp length-drop (omega arith)) (omega (arith, near 1 (omega arith))) in
-      sym (take-append-drop 392 v) ∙ ap₂ _++_ a b ∙ take-append-drop 392 w
+-- words that differ in no place of either half
+halves-same : (v w : List ℕ) → ((block : ℕ) → block < 2 → differ (half block v) (half block w) ≤ 0) → v ≡ w
+halves-same v w near =
+    let a : take 392 v ≡ take 392 w = differ-zero (take 392 v) (take 392 w) (omega (arith, near 0 (omega arith))) in
+    let b : drop 392 v ≡ drop 392 w = differ-zero (drop 392 v) (drop 392 w) (omega (arith, near 1 (omega arith))) in
+    sym (take-append-drop 392 v) ∙ ap₂ _++_ a b ∙ take-append-drop 392 w
 
 -- ---- the halves of a frame
 
@@ -112,7 +109,6 @@ module _ (m : ℕ) (frame : List ℕ) (long : length frame ≡ 58) where
       ap (half 1) (coded-twice m frame)
       ∙ second-half (encoded code3 (take 248 (information frame))) (encoded code3 (drop 248 (information frame))) (first-codeword frame long .long)
 
--- 784 bits that an uncoded frame fits are its information
-pub fits-uncoded : (w : List ℕ) → length w ≡ 784 → (frame : List ℕ) → Fits 0 w frame → information frame ≡ w
-fits-uncoded w l frame fits =
-    sym (coded-uncoded frame) ∙ halves-same w l (codedA 0 frame) (length-codedA 0 frame (omega arith) (fits .long)) (fits .near)
+-- bits that an uncoded frame fits are its information
+pub fits-uncoded : (w frame : List ℕ) → Fits 0 w frame → information frame ≡ w
+fits-uncoded w frame fits = sym (coded-uncoded frame) ∙ halves-same (codedA 0 frame) w (fits .near)

@@ -23,7 +23,7 @@ bits-symbol s u hs hu =
     bits-append (field1 ++ s ++ field2 ++ u) field3 (bits-append (field1 ++ s ++ field2) u two hu) (omega arith)
 
 module _ (s u : List ℕ) (ls : length s ≡ 196) (lu : length u ≡ 196) where
-  pub length-symbol : length (symbolOf s u) ≡ 420
+  length-symbol : length (symbolOf s u) ≡ 420
   unfolding symbolOf
   length-symbol = simp length-append (omega arith)
 
@@ -40,12 +40,12 @@ module _ (s u : List ℕ) (ls : length s ≡ 196) (lu : length u ≡ 196) where
   from-last : drop 402 (s ++ field2 ++ u ++ field3) ≡ field3
   from-last = sym (drop-drop 196 206 (s ++ field2 ++ u ++ field3)) ∙ ap (drop 196) from-second ∙ drop-at u field3 196 lu
 
-  pub carried-symbol : carriedBy (symbolOf s u) ≡ s ++ u
+  carried-symbol : carriedBy (symbolOf s u) ≡ s ++ u
   unfolding carriedBy symbolOf
   carried-symbol =
       ap₂ _++_ (ap (take 196) from-first ∙ take-at s (field2 ++ (u ++ field3)) 196 ls) (ap (take 196) from-second ∙ take-at u field3 196 lu)
 
-  pub protected-symbol : protectedIn (symbolOf s u) ≡ field1 ++ field2 ++ field3
+  protected-symbol : protectedIn (symbolOf s u) ≡ field1 ++ field2 ++ field3
   unfolding protectedIn symbolOf
   protected-symbol = ap₂ (λ (x y : List ℕ). field1 ++ x ++ y) (ap (take 10) from-field) (ap (take 8) from-last)
 

@@ -20,7 +20,7 @@ module _ (y z : List ℕ) (l : length y ≡ 420) where
   unfolding carried
   carried-append = ap₂ (λ (s u : List ℕ). carriedBy s ++ carriedBy u) (take-at y z 420 l) (drop-at y z 420 l)
 
-  pub protected-append : protected (y ++ z) ≡ protectedIn y ++ protectedIn z
+  protected-append : protected (y ++ z) ≡ protectedIn y ++ protectedIn z
   unfolding protected
   protected-append = ap₂ (λ (s u : List ℕ). protectedIn s ++ protectedIn u) (take-at y z 420 l) (drop-at y z 420 l)
 
@@ -37,6 +37,12 @@ length-carried bits l =
     length-append (carriedBy (take 420 bits)) (carriedBy (drop 420 bits))
     ∙ ap₂ _+_ (length-carried-by (take 420 bits) (length-take-le 420 bits (omega arith))) (length-carried-by (drop 420 bits) (simp length-drop (omega arith)))
 
+pub length-protected : (bits : List ℕ) → length bits ≡ 840 → length (protected bits) ≡ 56
+unfolding protected
+length-protected bits l =
+    length-append (protectedIn (take 420 bits)) (protectedIn (drop 420 bits))
+    ∙ ap₂ _+_ (length-protected-in (take 420 bits) (length-take-le 420 bits (omega arith))) (length-protected-in (drop 420 bits) (simp length-drop (omega arith)))
+
 -- ---- as sent
 
 pub bits-framed : (bits : List ℕ) → Bits bits → Bits (framed bits)
@@ -46,7 +52,7 @@ bits-framed bits h =
     bits-append (symbolOf (segment 0 bits) (segment 1 bits)) (symbolOf (segment 2 bits) (segment 3 bits))
     (bits-symbol (segment 0 bits) (segment 1 bits) (s 0) (s 196)) (bits-symbol (segment 2 bits) (segment 3 bits) (s 392) (s 588))
 
-pub framed-append : (a b : List ℕ) → length a ≡ 392 → length b ≡ 392 → framed (a ++ b) ≡ sent a ++ sent b
+framed-append : (a b : List ℕ) → length a ≡ 392 → length b ≡ 392 → framed (a ++ b) ≡ sent a ++ sent b
 unfolding framed segment
 framed-append a b la lb =
     let d : drop 392 (a ++ b) ≡ b = drop-at a b 392 la in

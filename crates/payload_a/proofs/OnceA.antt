@@ -63,8 +63,8 @@ module _ (area : List ℕ) (a b : ReceivedA) (u v : List ℕ) where
     p .left ∙ sym (q .left),
   )
 
-  module _ (mode : ℕ) (bits : List ℕ) (long : length bits ≡ 784) (unprotected : ℕ) where
-    goes-same : Goes mode bits unprotected area a u → Goes mode bits unprotected area b v → Same
+  module _ (mode : ℕ) (bits : List ℕ) (long : length bits ≡ 784) (differing : ℕ) where
+    goes-same : Goes mode bits differing area a u → Goes mode bits differing area b v → Same
     goes-same p q =
         let same = fits-once bits long (p .frame) (q .frame) mode (p .fits) (q .fits) in
         let count = ap (λ (f : List ℕ). differ (codedA mode f) bits) same in
@@ -87,7 +87,7 @@ module _ (area : List ℕ) (a b : ReceivedA) (u v : List ℕ) where
             let e : q .block ≡ p .block = omega arith in
             refused-same 9 (p .block) (p .refused) (rw e at (q .refused))
 
-    answered-same : Answered mode bits unprotected area a u → Answered mode bits unprotected area b v → Same
+    answered-same : Answered mode bits differing area a u → Answered mode bits differing area b v → Same
     answered-same (inl p) (inl q) = goes-same p q
     answered-same (inl p) (inr (inl q)) = absurd (q .none (mendable (q .coded) (p .frame) (p .fits) (q .block) (q .one)))
     answered-same (inl p) (inr (inr q)) = absurd (q .none (p .frame) (p .fits))

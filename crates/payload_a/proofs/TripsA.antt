@@ -63,21 +63,21 @@ module _ (mode : ℕ) (frame : List ℕ) (known : mode ≤ 1) (long : length fra
   all-long : length (framed (codedA mode frame)) ≡ 840
   all-long = length-framed (codedA mode frame) (length-codedA mode frame known long)
 
-  pub read-back : again mode frame ≡ framed (codedA mode frame)
+  read-back : again mode frame ≡ framed (codedA mode frame)
   unfolding sentI sentQ pointsA
   read-back = bits-back (framed (codedA mode frame)) all-long (bits-framed (codedA mode frame) (bits-codedA mode frame known long))
 
-  pub carried-again : carried (again mode frame) ≡ codedA mode frame
+  carried-again : carried (again mode frame) ≡ codedA mode frame
   carried-again = ap carried read-back ∙ carried-framed (codedA mode frame) (length-codedA mode frame known long)
 
-  pub protected-again : protected (again mode frame) ≡ fields
+  protected-again : protected (again mode frame) ≡ fields
   protected-again = ap protected read-back ∙ protected-framed (codedA mode frame) (length-codedA mode frame known long)
 
-  pub legal-again : strayAt (received 2 (sentI mode frame) (sentQ mode frame)) ≡ 420
+  legal-again : strayAt (received 2 (sentI mode frame) (sentQ mode frame)) ≡ 420
   unfolding sentI sentQ pointsA
   legal-again = none-stray (framed (codedA mode frame)) all-long
 
-  pub empty-again : firstFilled (sentI mode frame) (sentQ mode frame) 0 512 ≡ 512
+  empty-again : firstFilled (sentI mode frame) (sentQ mode frame) 0 512 ≡ 512
   unfolding sentI sentQ
   empty-again = placed-filled 2 (pointsA mode frame)
 
@@ -156,13 +156,13 @@ module _ (mode : ℕ) (is qs : List ℤ) (area : List ℕ) (call : Legal mode is
 
     pub up-when-near : Near → GoesUp mode area answer after frame
     up-when-near near =
-        let unprotected = differ fields (protected (dibits (received 2 is qs))) in
+        let differing = differ fields (protected (dibits (received 2 is qs))) in
         let fits : Fits mode word frame = record { long = long; bytes = bytes; near = near } in
         let mended = differ (codedA mode frame) word in
-        let made : ReceivingA mode is qs area (Accepted mended unprotected) (frame ++ drop (bytesA mode) area)
-        = answered (λ k. Receives k mode (dibits (received 2 is qs)) area (Accepted mended unprotected) (frame ++ drop (bytesA mode) area))
+        let made : ReceivingA mode is qs area (Accepted mended differing) (frame ++ drop (bytesA mode) area)
+        = answered (λ k. Receives k mode (dibits (received 2 is qs)) area (Accepted mended differing) (frame ++ drop (bytesA mode) area))
         (inl (record { frame = frame; fits = fits; number = refl; place = refl; mended = refl; protected = refl; left = refl })) in
-        let same = receive-a-once area answer (Accepted mended unprotected) after (frame ++ drop (bytesA mode) area) mode is qs receiving made in
+        let same = receive-a-once area answer (Accepted mended differing) after (frame ++ drop (bytesA mode) area) mode is qs receiving made in
         (ap numberA (same .0), same .1)
 
     pub near-when-up : GoesUp mode area answer after frame → Near

@@ -18,8 +18,8 @@ use Rattle.payload_a.specs.PromiseA.{sendChecked, pointsChecked, receive
 use Rattle.payload_a.specs.declared.ReceivedA.the-variants.{Refused}
 
 -- a refusal says its number and place, has no counts and changes nothing
-pub refused : (r : Refusal) (area : List ℕ) → RefusedWith (numberOf r) (placeOf r) area (Refused r) area
-refused r area = record { numbered = refl; placed = refl; mended = refl; protected = refl; left = refl }
+pub refused : (r : Refusal) {place : ℕ} {area area' : List ℕ} → placeOf r ≡ place → area' ≡ area → RefusedWith (numberOf r) place area (Refused r) area'
+refused r e l = record { numbered = refl; placed = e; mended = refl; protected = refl; left = l }
 
 -- ---- send
 

@@ -1,5 +1,5 @@
 -- What sending and receiving Payload A promise: for every mode, frame, grid and lent list, the answer and what the lent lists hold after.
--- Receiving is stated by what was sent: demand 3's sentence on Payload A is `Fits` and `Goes`.
+-- Receiving is stated by what was sent: demand 3's sentence on Payload A is `Answered`.
 -- Assumes nothing.
 use mathlib.Core.Path.{_≡_}
 use mathlib.Core.Logic.{_⊎_}
@@ -70,13 +70,13 @@ abbrev pub Mendable : ℕ → List ℕ → Type 0
 Mendable block bits = (v : List ℕ) × Within code3 (half block bits) v
 
 -- such a frame goes up, with the number of bits that differ and the number of protected bits that differ
-pub record Goes (mode : ℕ) (bits : List ℕ) (unprotected : ℕ) (area : List ℕ) (answer : ReceivedA) (area' : List ℕ) : Type 0 where
+pub record Goes (mode : ℕ) (bits : List ℕ) (differing : ℕ) (area : List ℕ) (answer : ReceivedA) (area' : List ℕ) : Type 0 where
   pub frame : List ℕ
   pub fits : Fits mode bits frame
   pub number : numberA answer ≡ 0
   pub place : placeA answer ≡ 0
   pub mended : mendedA answer ≡ differ (codedA mode frame) bits
-  pub protected : protectedA answer ≡ unprotected
+  pub protected : protectedA answer ≡ differing
   pub left : area' ≡ frame ++ drop (bytesA mode) area
 
 -- what every refusal has in common: its number and place, no counts, and nothing changed
@@ -104,8 +104,8 @@ pub record Wrong (mode : ℕ) (bits : List ℕ) (area : List ℕ) (answer : Rece
 
 -- for 784 bits, and so many protected bits that differ
 abbrev pub Answered : ℕ → List ℕ → ℕ → List ℕ → ReceivedA → List ℕ → Type 0
-Answered mode bits unprotected area answer area' =
-    Goes mode bits unprotected area answer area' ⊎ (Hopeless mode bits area answer area' ⊎ Wrong mode bits area answer area')
+Answered mode bits differing area answer area' =
+    Goes mode bits differing area answer area' ⊎ (Hopeless mode bits area answer area' ⊎ Wrong mode bits area answer area')
 
 abbrev pub Receives : Checked → ℕ → List ℕ → List ℕ → ReceivedA → List ℕ → Type 0
 Receives (fails number place) mode bits area answer area' = RefusedWith number place area answer area'

@@ -1,8 +1,10 @@
 -- Protected fields and segments (clause 7.4.5, Table 6): 784 bits in four segments of 196, two to an OFDM symbol.
 -- Assumes nothing.
+use mathlib.Core.Bool.{cond}
 use mathlib.Core.List.{List, [], _∷_, _++_}
 use Prim.Native.Nat.{ℕ, _+_, _*_}
-use lib.ListN.{take, drop, replicate}
+use lib.Dec.{leb}
+use lib.ListN.{length, take, drop, replicate}
 
 -- 1111111110, 1111111111 and 11111111
 abbrev pub field1 : List ℕ
@@ -13,6 +15,10 @@ field2 = replicate 10 1
 
 abbrev pub field3 : List ℕ
 field3 = replicate 8 1
+
+-- what a list holds once bits are put there, from index `at` on: nothing is put where there is no room
+abbrev pub putAt : List ℕ → ℕ → List ℕ → List ℕ
+putAt bits at out = cond (leb (at + length bits) (length out)) (take at out ++ bits ++ drop (at + length bits) out) out
 
 -- the bits of one OFDM symbol with two segments
 unfoldable pub symbolOf : List ℕ → List ℕ → List ℕ

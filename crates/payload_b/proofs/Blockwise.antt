@@ -1,11 +1,11 @@
 -- A frame of Payload B block by block: how many bits are sent for it, what for one block more, and which block for which bytes; which can be mended.
 -- Assumes nothing.
-use mathlib.Core.Path.{_≡_, sym, ap, ap₂, _∙_}
+use mathlib.Core.Path.{_≡_, refl, sym, ap, ap₂, _∙_}
 use mathlib.Core.Logic.{_≢_}
 use mathlib.Core.List.{List, [], _∷_, _++_, append-nil, append-assoc}
 use Prim.Native.Nat.{ℕ, zero, suc, _+_, _*_, _%_, _≤_, _<_}
 use native.Mathlib.Omega.{arith}
-use native.Mathlib.Nat.{mul-zero, mul-suc, mul-le-mul-left, mul-div-cancel-left}
+use native.Mathlib.Nat.{mul-zero, mul-suc, mul-le-mul-left, mul-div-cancel-left, zero-div}
 use lib.ListN.{length, take, drop, length-append, length-drop}
 use lib.Seq.{take-all, take-at, drop-at, drop-drop, take-append-le, drop-append-le, length-take-le}
 use Rattle.bch.specs.Words.{Bits}
@@ -32,7 +32,7 @@ module _ (mode : ℕ) where
   size = 8 * blockBytes mode
 
   -- one block more
-  pub blocks-more : (m : ℕ) (bits more : List ℕ) → length bits ≡ size * m → length more ≡ size
+  blocks-more : (m : ℕ) (bits more : List ℕ) → length bits ≡ size * m → length more ≡ size
       → blocksOf mode (suc m) (bits ++ more) ≡ blocksOf mode m bits ++ blockOf mode more
   unfolding blocksOf
   blocks-more zero [] more e l = ap (λ (w : List ℕ). blockOf mode w ++ []) (take-all size more (omega arith)) ∙ append-nil (blockOf mode more)
@@ -49,7 +49,7 @@ module _ (mode : ℕ) where
     first-long : (m : ℕ) (bits : List ℕ) → Bits bits → length bits ≡ size * suc m → length (blockOf mode (take size bits)) ≡ blockBits mode
     first-long m bits h e = blockOf-long mode known (take size bits) (bits-take size bits h) (length-take-le size bits (omega arith))
 
-    pub length-blocks : (m : ℕ) (bits : List ℕ) → Bits bits → length bits ≡ size * m → length (blocksOf mode m bits) ≡ blockBits mode * m
+    length-blocks : (m : ℕ) (bits : List ℕ) → Bits bits → length bits ≡ size * m → length (blocksOf mode m bits) ≡ blockBits mode * m
     unfolding blocksOf
     length-blocks zero bits h e = sym (mul-zero (blockBits mode))
     length-blocks (suc m) bits h e =
@@ -57,7 +57,7 @@ module _ (mode : ℕ) where
         length-append (blockOf mode (take size bits)) (blocksOf mode m (drop size bits))
         ∙ omega (arith, first-long m bits h e, length-blocks m (drop size bits) (bits-drop size bits h) rest)
 
-    pub block-at : (m : ℕ) (bits : List ℕ) → Bits bits → length bits ≡ size * m → (b : ℕ) → b < m
+    block-at : (m : ℕ) (bits : List ℕ) → Bits bits → length bits ≡ size * m → (b : ℕ) → b < m
         → blockAt mode b (blocksOf mode m bits) ≡ blockOf mode (take size (drop (size * b) bits))
     unfolding blocksOf
     block-at zero bits h e b l = absurd (omega arith)
@@ -76,7 +76,7 @@ module _ (mode : ℕ) where
         ∙ ap (λ (w : List ℕ). blockOf mode (take size w)) (drop-drop (size * b) size bits ∙ ap (λ (n : ℕ). drop n bits) up)
 
     -- blocks of bits are bits
-    pub bits-blocks : (m : ℕ) (bits : List ℕ) → Bits bits → length bits ≡ size * m → Bits (blocksOf mode m bits)
+    bits-blocks : (m : ℕ) (bits : List ℕ) → Bits bits → length bits ≡ size * m → Bits (blocksOf mode m bits)
     unfolding blocksOf
     bits-blocks zero bits h e = tt
     bits-blocks (suc m) bits h e =
@@ -103,28 +103,33 @@ pub blocks-in : (mode m : ℕ) → blocksIn mode (blockBytes mode * m) ≡ m
 blocks-in mode m = mul-div-cancel-left m (block-bytes-pos mode)
 
 -- the bits of a frame before they are coded
-pub frame-bits : (frame : List ℕ) → Bits (scrambled (bitsOf frame))
+frame-bits : (frame : List ℕ) → Bits (scrambled (bitsOf frame))
 unfolding scrambled
 frame-bits frame = bits-scrambled start (bitsOf frame) (bits-bitsOf frame)
+
+-- for no bytes nothing is sent
+pub coded-none : (mode : ℕ) → codedB mode [] ≡ []
+unfolding codedB blocksOf
+coded-none mode = rw (zero-div (blockBytes mode)) refl
 
 module _ (mode m : ℕ) (frame : List ℕ) (long : length frame ≡ blockBytes mode * m) where
   pub frame-long : length (scrambled (bitsOf frame)) ≡ 8 * blockBytes mode * m
   unfolding scrambled
   frame-long = length-scrambled start (bitsOf frame) ∙ length-bitsOf frame ∙ omega arith
 
-  pub coded-blocks : codedB mode frame ≡ blocksOf mode m (scrambled (bitsOf frame))
+  coded-blocks : codedB mode frame ≡ blocksOf mode m (scrambled (bitsOf frame))
   unfolding codedB
   coded-blocks = ap (λ (k : ℕ). blocksOf mode k (scrambled (bitsOf frame))) (ap (blocksIn mode) long ∙ blocks-in mode m)
 
   -- what is sent for a frame with one block more: the scrambler runs on
-  pub coded-more : (g : List ℕ) → length g ≡ blockBytes mode
-      → codedB mode (frame ++ g) ≡ codedB mode frame ++ blockOf mode (scrambledFrom (registerAfter (8 * length frame) start) (bitsOf g))
+  pub coded-more : (register : ℕ) → register ≡ registerAfter (8 * length frame) start → (g : List ℕ) → length g ≡ blockBytes mode
+      → codedB mode (frame ++ g) ≡ codedB mode frame ++ blockOf mode (scrambledFrom register (bitsOf g))
   unfolding codedB scrambled
-  coded-more g lg =
-      let register = registerAfter (8 * length frame) start in
+  coded-more register carried g lg =
       let all : scrambledFrom start (bitsOf (frame ++ g)) ≡ scrambledFrom start (bitsOf frame) ++ scrambledFrom register (bitsOf g)
       = ap (scrambledFrom start) (bitsOf-append frame g) ∙ scrambled-append start (bitsOf frame) (bitsOf g)
-      ∙ ap (λ (n : ℕ). scrambledFrom start (bitsOf frame) ++ scrambledFrom (registerAfter n start) (bitsOf g)) (length-bitsOf frame) in
+      ∙ ap (λ (r : ℕ). scrambledFrom start (bitsOf frame) ++ scrambledFrom r (bitsOf g))
+      (ap (λ (n : ℕ). registerAfter n start) (length-bitsOf frame) ∙ sym carried) in
       let two : blocksIn mode (length (frame ++ g)) ≡ suc m
       = ap (blocksIn mode) (length-append frame g ∙ ap₂ _+_ long lg ∙ omega arith) ∙ blocks-in mode (suc m) in
       ap₂ (blocksOf mode) two all

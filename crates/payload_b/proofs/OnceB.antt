@@ -1,4 +1,4 @@
--- The promise of Payload B leaves one answer and one memory, for every mode, length, frame, scheme, grid and lent list.
+-- The promise of Payload B leaves one answer and one memory, for every mode, length, frame, scheme, grid and lent list; and so do the checks 1, 2, 5 and 6.
 -- Assumes nothing.
 use mathlib.Core.Path.{_≡_, refl, sym, ap, _∙_}
 use mathlib.Core.Logic.{_≢_, inl, inr}
@@ -17,14 +17,16 @@ use Rattle.payload_b.specs.CodedB.{blockBytes, blocksIn, bitsFor, codedB
 use Rattle.payload_b.specs.AnswersB.{numberB, placeB, mendedB}
 use Rattle.payload.specs.Checked.{Checked, fails, passes}
 use Rattle.payload_b.specs.PromiseB.{badEntry, planned, SendsB, SendingB, sendCheckedB, gridChecked, bitsReceived, FitsB, MendableB, GoesB, HopelessB, ReceivesB, ReceivingB}
-use Rattle.payload_b.specs.HeldB.{Plan}
+use Rattle.payload_b.specs.PlanB.{Plan, Judged}
 use Rattle.payload.specs.declared.Sent.{Sent}
 use Rattle.payload_b.specs.declared.ReceivedB.{ReceivedB}
 use Rattle.payload_b.specs.declared.ReceivedB.the-variants.{Accepted, Refused}
+use Rattle.payload_b.specs.declared.plan.Verdict.{Verdict}
+use Rattle.payload_b.specs.declared.plan.Verdict.the-variants.{Passes, Fails}
 use Rattle.payload.proofs.Refusals.{refusalOf, refusal-of, numbered, sent-same}
 use Rattle.payload_b.proofs.Schemes.{bad-most}
 use Rattle.payload_b.proofs.Mapping.{length-symbols}
-use Rattle.payload_b.proofs.Plans.{mode-unknown, none-sent, not-whole, other-length, some-bad, too-many, all-pass, whole-blocks, symbols-hold}
+use Rattle.payload_b.proofs.Plans.{mode-unknown, none-sent, not-whole, other-length, some-bad, too-many, all-pass, plan-passes, whole-blocks, symbols-hold}
 use Rattle.payload_b.proofs.Blockwise.{fits-mendable}
 use Rattle.payload_b.proofs.UniqueB.{fits-onceB}
 
@@ -56,34 +58,54 @@ module _ (mode : ℕ) (frame scheme : List ℕ) (is qs : List ℤ) (a b : Sent) 
 
 module _ (P : Checked → Type 0) (mode n : ℕ) (scheme : List ℕ) (next : Checked) (failed : (number place : ℕ) → 0 < number → P (fails number place))
     (planning : Plan mode n scheme → P next) where
-  pub by-plan : P (planned mode n scheme next)
-  by-plan = known (decLe mode 2)
+  abbrev Found : Type 0
+  Found = P (planned mode n scheme next)
+
+  -- the checks 5 and 6, where 1 and 2 pass
+  by-scheme : mode ≤ 2 → 0 < n → n % blockBytes mode ≡ 0 → Found
+  by-scheme k s w = long (ℕ-discrete (length scheme) 210)
     where
-      few : mode ≤ 2 → 0 < n → n % blockBytes mode ≡ 0 → length scheme ≡ 210 → 210 ≤ badEntry scheme → Dec (symbolsFor mode n scheme ≤ 256) → P (planned mode n scheme next)
-      few k s w l g (yes f) =
+      few : length scheme ≡ 210 → 210 ≤ badEntry scheme → Dec (symbolsFor mode n scheme ≤ 256) → Found
+      few l g (yes f) =
           rw (all-pass mode n scheme next k s w l g f)
           (planning (record { known = k; some = s; whole = w; entries = record { long = l; entries = omega (arith, bad-most scheme) }; few = f }))
-      few k s w l g (no f) = rw (too-many mode n scheme next k s w l g (omega arith)) (failed 6 0 (omega arith))
+      few l g (no f) = rw (too-many mode n scheme next k s w l g (omega arith)) (failed 6 0 (omega arith))
 
-      good : mode ≤ 2 → 0 < n → n % blockBytes mode ≡ 0 → length scheme ≡ 210 → Dec (badEntry scheme < 210) → P (planned mode n scheme next)
-      good k s w l (yes b) = rw (some-bad mode n scheme next k s w l b) (failed 5 (badEntry scheme) (omega arith))
-      good k s w l (no b) = few k s w l (omega arith) (decLe (symbolsFor mode n scheme) 256)
+      good : length scheme ≡ 210 → Dec (badEntry scheme < 210) → Found
+      good l (yes b) = rw (some-bad mode n scheme next k s w l b) (failed 5 (badEntry scheme) (omega arith))
+      good l (no b) = few l (omega arith) (decLe (symbolsFor mode n scheme) 256)
 
-      long : mode ≤ 2 → 0 < n → n % blockBytes mode ≡ 0 → Dec (length scheme ≡ 210) → P (planned mode n scheme next)
-      long k s w (yes l) = good k s w l (decLt (badEntry scheme) 210)
-      long k s w (no l) = rw (other-length mode n scheme next k s w l) (failed 5 210 (omega arith))
+      long : Dec (length scheme ≡ 210) → Found
+      long (yes l) = good l (decLt (badEntry scheme) 210)
+      long (no l) = rw (other-length mode n scheme next k s w l) (failed 5 210 (omega arith))
 
-      whole : mode ≤ 2 → 0 < n → Dec (n % blockBytes mode ≡ 0) → P (planned mode n scheme next)
-      whole k s (yes w) = long k s w (ℕ-discrete (length scheme) 210)
+  pub by-plan : Found
+  by-plan = known (decLe mode 2)
+    where
+      whole : mode ≤ 2 → 0 < n → Dec (n % blockBytes mode ≡ 0) → Found
+      whole k s (yes w) = by-scheme k s w
       whole k s (no w) = rw (not-whole mode n scheme next k w) (failed 2 0 (omega arith))
 
-      some : mode ≤ 2 → Dec (0 < n) → P (planned mode n scheme next)
+      some : mode ≤ 2 → Dec (0 < n) → Found
       some k (yes s) = whole k s (ℕ-discrete (n % blockBytes mode) 0)
       some k (no s) = rw (none-sent mode n scheme next k (omega arith)) (failed 2 0 (omega arith))
 
-      known : Dec (mode ≤ 2) → P (planned mode n scheme next)
+      known : Dec (mode ≤ 2) → Found
       known (yes k) = some k (decLt 0 n)
       known (no k) = rw (mode-unknown mode n scheme next (omega arith)) (failed 1 0 (omega arith))
+
+-- a verdict is what they find, with the OFDM symbols needed
+judgedOf : ℕ → Checked → Verdict
+judgedOf m (fails number place) = Fails (refusalOf number place)
+judgedOf m passes = Passes m
+
+judged-of : (mode n : ℕ) (scheme : List ℕ) (a : Verdict) → Judged mode n scheme a → judgedOf (symbolsFor mode n scheme) (planned mode n scheme passes) ≡ a
+unfolding judgedOf
+judged-of mode n scheme (Passes m) p = ap (judgedOf (symbolsFor mode n scheme)) (plan-passes (p .0) passes) ∙ ap Passes (sym (p .1))
+judged-of mode n scheme (Fails why) p = ap (judgedOf (symbolsFor mode n scheme)) (p passes) ∙ ap Fails (refusal-of why)
+
+pub judged-once : (mode n : ℕ) (scheme : List ℕ) (a b : Verdict) → Judged mode n scheme a → Judged mode n scheme b → a ≡ b
+judged-once mode n scheme a b p q = sym (judged-of mode n scheme a p) ∙ judged-of mode n scheme b q
 
 -- ---- the bits received are as many as were sent
 

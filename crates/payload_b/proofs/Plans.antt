@@ -13,13 +13,13 @@ use lib.ListN.{length}
 use Rattle.payload_b.specs.CodedB.{blockBytes, blocksIn, bitsFor, sumOf, symbolsFor}
 use Rattle.payload.specs.Checked.{Checked, fails}
 use Rattle.payload_b.specs.PromiseB.{badEntry, planned}
-use Rattle.payload_b.specs.HeldB.{Plan}
+use Rattle.payload_b.specs.PlanB.{Plan}
 use Rattle.payload_b.proofs.Schemes.{sum-least}
 
 -- ---- whole blocks and whole OFDM symbols
 
 -- a quotient rounded up is enough
-pub rounded-up : (a b : ℕ) → 0 < b → a ≤ b * ((a + (b - 1)) / b)
+rounded-up : (a b : ℕ) → 0 < b → a ≤ b * ((a + (b - 1)) / b)
 rounded-up a b p = omega (arith, div-add-mod (a + (b - 1)) b, mod-lt (a + (b - 1)) p)
 
 -- bytes without remainder are those of their blocks

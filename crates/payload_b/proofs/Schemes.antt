@@ -1,60 +1,41 @@
 -- Schemes: their entries and sums, and a scheme repeated in every OFDM symbol.
 -- Assumes nothing.
 use mathlib.Core.Path.{_≡_, refl, sym, ap, ap₂, _∙_}
+use mathlib.Core.Bool.{Bool, true, false, _||_, true≢false}
 use mathlib.Core.List.{List, [], _∷_, _++_, append-nil, append-assoc}
 use Prim.Native.Nat.{ℕ, zero, suc, _+_, _-_, _*_, _%_, _≤_, _<_}
 use native.Mathlib.Nat.{mul-zero, mul-suc, mod-eq-of-lt, mod-eq-sub-mod}
 use native.Mathlib.Decide.{decLe}
 use native.Mathlib.Omega.{arith}
-use borrow.Author.Tests.{le-leb, lt-leb}
+use borrow.Author.Tests.{ltb-false}
+use lib.Dec.{ltb}
 use lib.ListN.{length, getD, take, drop, length-append, take-append-drop, List·getD-append}
-use lib.Seq.{take-suc, getD-append-add}
+use lib.Seq.{take-all, take-suc, getD-append-add}
+use Rattle.ground.proofs.Firsts.{first}
 use Rattle.payload_b.specs.CodedB.{sumOf, repeated}
 use Rattle.payload_b.specs.PromiseB.{badEntry}
-use Rattle.payload_b.specs.HeldB.{Scheme}
+use Rattle.payload_b.specs.PlanB.{Scheme}
 
 -- ---- the first bad entry
 
-module _ (n : ℕ) (ns : List ℕ) where
-  pub bad-low : n < 2 → badEntry (n ∷ ns) ≡ 0
-  unfolding badEntry
-  bad-low l = rw (lt-leb 2 n l) refl
-
-  pub bad-high : 10 < n → badEntry (n ∷ ns) ≡ 0
-  unfolding badEntry
-  bad-high h = rw (le-leb 2 n (omega arith), lt-leb n 10 h) refl
-
-  pub bad-later : 2 ≤ n → n ≤ 10 → badEntry (n ∷ ns) ≡ suc (badEntry ns)
-  unfolding badEntry
-  bad-later l h = rw (le-leb 2 n l, le-leb n 10 h) refl
-
-pub bad-nil : badEntry [] ≡ 0
-unfolding badEntry
-bad-nil = refl
-
--- the first entry is good where the first bad one is not at 0
-first-good : (n : ℕ) (ns : List ℕ) → 0 < badEntry (n ∷ ns) → (2 ≤ n) × (n ≤ 10)
-first-good n ns p = by (decLe 2 n) (decLe n 10)
-  where
-    by : Dec (2 ≤ n) → Dec (n ≤ 10) → (2 ≤ n) × (n ≤ 10)
-    by (yes l) (yes h) = (l, h)
-    by (yes l) (no h) = omega (arith, p, bad-high n ns (omega arith))
-    by (no l) h = omega (arith, p, bad-low n ns (omega arith))
-
-pub good-before : (ns : List ℕ) (i : ℕ) → i < badEntry ns → (2 ≤ getD ns i 0) × (getD ns i 0 ≤ 10)
-good-before [] i l = omega (arith, l, bad-nil)
-good-before (n ∷ ns) zero l = first-good n ns l
-good-before (n ∷ ns) (suc i) l =
-    let g = first-good n ns (omega arith) in
-    good-before ns i (omega (arith, bad-later n ns (g .0) (g .1)))
-
 pub bad-most : (ns : List ℕ) → badEntry ns ≤ length ns
-bad-most [] = omega (arith, bad-nil)
-bad-most (n ∷ ns) = by (decLe 1 (badEntry (n ∷ ns))) (bad-most ns)
-  where
-    by : Dec (1 ≤ badEntry (n ∷ ns)) → badEntry ns ≤ length ns → badEntry (n ∷ ns) ≤ length (n ∷ ns)
-    by (yes p) rest = let g = first-good n ns p in omega (arith, bad-later n ns (g .0) (g .1))
-    by (no p) rest = omega arith
+bad-most ns = first _ 0 ns .most
+
+neither : (a b : Bool) → (a || b) ≡ false → (a ≡ false) × (b ≡ false)
+neither true b e = absurd (true≢false e)
+neither false b e = (refl, e)
+
+good-before : (ns : List ℕ) (i : ℕ) → i < badEntry ns → (2 ≤ getD ns i 0) × (getD ns i 0 ≤ 10)
+good-before ns i l =
+    let e = neither (ltb (getD ns i 0) 2) (ltb 10 (getD ns i 0)) (first _ 0 ns .before i l) in
+    (ltb-false _ 2 (e .0), ltb-false 10 _ (e .1))
+
+-- every entry is from 2 to 10
+abbrev pub Entries : List ℕ → Type 0
+Entries ns = (k : ℕ) → k < length ns → (2 ≤ getD ns k 0) × (getD ns k 0 ≤ 10)
+
+pub behind : (n : ℕ) (ns : List ℕ) → Entries (n ∷ ns) → Entries ns
+behind n ns each k h = each (suc k) (omega arith)
 
 -- ---- sums
 
@@ -62,19 +43,19 @@ pub sum-nil : sumOf [] ≡ 0
 unfolding sumOf
 sum-nil = refl
 
-pub sum-cons : (n : ℕ) (ns : List ℕ) → sumOf (n ∷ ns) ≡ n + sumOf ns
+sum-cons : (n : ℕ) (ns : List ℕ) → sumOf (n ∷ ns) ≡ n + sumOf ns
 unfolding sumOf
 sum-cons n ns = refl
 
-pub sum-append : (a b : List ℕ) → sumOf (a ++ b) ≡ sumOf a + sumOf b
+sum-append : (a b : List ℕ) → sumOf (a ++ b) ≡ sumOf a + sumOf b
 unfolding sumOf
 sum-append [] b = omega arith
 sum-append (n ∷ a) b = omega (arith, sum-append a b)
 
-pub sum-split : (k : ℕ) (scheme : List ℕ) → sumOf (take k scheme) + sumOf (drop k scheme) ≡ sumOf scheme
+sum-split : (k : ℕ) (scheme : List ℕ) → sumOf (take k scheme) + sumOf (drop k scheme) ≡ sumOf scheme
 sum-split k scheme = sym (sum-append (take k scheme) (drop k scheme)) ∙ ap sumOf (take-append-drop k scheme)
 
-pub sum-take-le : (k : ℕ) (scheme : List ℕ) → sumOf (take k scheme) ≤ sumOf scheme
+sum-take-le : (k : ℕ) (scheme : List ℕ) → sumOf (take k scheme) ≤ sumOf scheme
 sum-take-le k scheme = omega (arith, sum-split k scheme)
 
 -- one entry more
@@ -86,32 +67,38 @@ sum-snoc scheme s h = rw (take-suc scheme s 0 h, sum-append (take s scheme) (get
 pub entry-end : (scheme : List ℕ) (s : ℕ) → s < length scheme → sumOf (take s scheme) + getD scheme s 0 ≤ sumOf scheme
 entry-end scheme s h = omega (arith, sum-snoc scheme s h, sum-take-le (suc s) scheme)
 
--- entries that are all good
-sum-within : (ns : List ℕ) → badEntry ns ≡ length ns → (2 * length ns ≤ sumOf ns) × (sumOf ns ≤ 10 * length ns)
-sum-within [] e = (omega (arith, sum-nil), omega (arith, sum-nil))
-sum-within (n ∷ ns) e =
-    let g = first-good n ns (omega arith) in
-    let rest = sum-within ns (omega (arith, bad-later n ns (g .0) (g .1))) in
-    (omega (arith, sum-cons n ns, g, rest), omega (arith, sum-cons n ns, g, rest))
+sum-within : (ns : List ℕ) → Entries ns → (2 * length ns ≤ sumOf ns) × (sumOf ns ≤ 10 * length ns)
+sum-within [] each = (omega (arith, sum-nil), omega (arith, sum-nil))
+sum-within (n ∷ ns) each =
+    let first = each 0 (omega arith) in
+    let rest = sum-within ns (behind n ns each) in
+    (omega (arith, sum-cons n ns, first, rest), omega (arith, sum-cons n ns, first, rest))
 
 module _ {scheme : List ℕ} (s : Scheme scheme) where
   pub entry-in : (i : ℕ) → i < 210 → (2 ≤ getD scheme i 0) × (getD scheme i 0 ≤ 10)
   entry-in i l = good-before scheme i (omega (arith, s .entries))
 
+  within : (2 * length scheme ≤ sumOf scheme) × (sumOf scheme ≤ 10 * length scheme)
+  within = sum-within scheme (λ k h. entry-in k (omega (arith, s .long)))
+
+  -- the entries are all of 210
+  pub sum-whole : sumOf (take 210 scheme) ≡ sumOf scheme
+  sum-whole = ap sumOf (take-all 210 scheme (omega (arith, s .long)))
+
   pub sum-least : 420 ≤ sumOf scheme
-  sum-least = omega (arith, s .long, sum-within scheme (s .entries ∙ sym (s .long)) .0)
+  sum-least = omega (arith, s .long, within .0)
 
   pub sum-most : sumOf scheme ≤ 2100
-  sum-most = omega (arith, s .long, sum-within scheme (s .entries ∙ sym (s .long)) .1)
+  sum-most = omega (arith, s .long, within .1)
 
 -- ---- the scheme in every OFDM symbol
 
 module _ (scheme : List ℕ) where
-  pub repeated-zero : repeated 0 scheme ≡ []
+  repeated-zero : repeated 0 scheme ≡ []
   unfolding repeated
   repeated-zero = refl
 
-  pub repeated-suc : (m : ℕ) → repeated (suc m) scheme ≡ scheme ++ repeated m scheme
+  repeated-suc : (m : ℕ) → repeated (suc m) scheme ≡ scheme ++ repeated m scheme
   unfolding repeated
   repeated-suc m = refl
 

@@ -23,7 +23,7 @@ use Rattle.payload.specs.Answers.{sentNumber}
 use Rattle.payload_b.specs.AnswersB.{numberB, mendedB}
 use Rattle.payload.specs.Checked.{Checked, fails, passes, room}
 use Rattle.payload_b.specs.PromiseB.{SendsB, SendingB, strayIn, pointsCheckedB, gridChecked, receiveCheckedB, bitsReceived, blockAt, mendsB, GoesB, ReceivesB, ReceivingB}
-use Rattle.payload_b.specs.HeldB.{Plan}
+use Rattle.payload_b.specs.PlanB.{Plan}
 use Rattle.payload.specs.declared.Sent.{Sent}
 use Rattle.payload_b.specs.declared.ReceivedB.{ReceivedB}
 use Rattle.payload_b.specs.declared.ReceivedB.the-variants.{Accepted}
@@ -76,26 +76,26 @@ module _ (mode : ℕ) (frame scheme : List ℕ) (plan : Plan mode (length frame)
   filled-bits = bits-append (codedB mode frame) _ (bits-codedB mode blocks frame (whole-blocks mode (length frame) (plan .whole)) (plan .known))
       (bits-zeros (sumOf scheme * m - length (codedB mode frame)))
 
-  pub points-back : received m (sentB levelI mode frame scheme) (sentB levelQ mode frame scheme) ≡ mapped (repeated m scheme) filled
+  points-back : received m (sentB levelI mode frame scheme) (sentB levelQ mode frame scheme) ≡ mapped (repeated m scheme) filled
   unfolding sentB pointsB
   points-back =
       received-placed m (mapped (repeated m scheme) filled) (length-mapped (repeated m scheme) filled ∙ repeated-long scheme (plan .entries .long) m)
       (points-mapped (repeated m scheme) filled (entries-repeated (plan .entries) m) filled-bits)
 
   -- the bits of the points that are sent, the fill left out
-  pub bits-back : bitsReceived mode (length frame) scheme (sentB levelI mode frame scheme) (sentB levelQ mode frame scheme) ≡ codedB mode frame
+  bits-back : bitsReceived mode (length frame) scheme (sentB levelI mode frame scheme) (sentB levelQ mode frame scheme) ≡ codedB mode frame
   bits-back =
       ap (λ (ps : List Point). take (bitsFor mode (length frame)) (labelled (repeated m scheme) ps)) points-back
       ∙ ap (take (bitsFor mode (length frame)))
       (labelled-mapped (repeated m scheme) filled (entries-repeated (plan .entries) m) filled-bits (filled-long ∙ sym (sum-repeated scheme m)))
       ∙ take-at (codedB mode frame) _ (bitsFor mode (length frame)) coded-long
 
-  pub none-stray : strayIn (repeated m scheme) (received m (sentB levelI mode frame scheme) (sentB levelQ mode frame scheme)) ≡ 210 * m
+  none-stray : strayIn (repeated m scheme) (received m (sentB levelI mode frame scheme) (sentB levelQ mode frame scheme)) ≡ 210 * m
   none-stray =
       ap (strayIn (repeated m scheme)) points-back ∙ stray-mapped (repeated m scheme) filled (entries-repeated (plan .entries) m) filled-bits
       ∙ repeated-long scheme (plan .entries .long) m
 
-  pub none-filled : firstFilled (sentB levelI mode frame scheme) (sentB levelQ mode frame scheme) 0 (256 * m) ≡ 256 * m
+  none-filled : firstFilled (sentB levelI mode frame scheme) (sentB levelQ mode frame scheme) 0 (256 * m) ≡ 256 * m
   unfolding sentB
   none-filled = placed-filled m (pointsB mode frame scheme)
 

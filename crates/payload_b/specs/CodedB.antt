@@ -9,6 +9,7 @@ use lib.ListN.{length, take, drop, replicate}
 use Rattle.bch.specs.Words.{digits}
 use Rattle.bch.specs.Codes.{Code, code1, code2, encoded}
 use Rattle.points.specs.declared.Point.{Point}
+use Rattle.points.specs.declared.Label.{Label}
 use Rattle.points.specs.Constellations.{pointOf, labelOf, labelNumber, levelI, levelQ}
 use Rattle.payload.specs.Bits.{bitsOf, number}
 use Rattle.payload.specs.Scrambler.{scrambled}
@@ -16,7 +17,7 @@ use Rattle.payload.specs.Grids.{placed}
 
 -- ---- modes: 0 is uncoded, 1 uses (508,472), 2 uses (504,432)
 
--- the bytes of a block; uncoded, each byte is one
+-- how many bytes of the frame go into one block; uncoded, each byte is a block of its own
 abbrev pub blockBytes : ℕ → ℕ
 blockBytes mode = cond (eqb mode 0) 1 (cond (eqb mode 1) 59 54)
 
@@ -52,7 +53,7 @@ unfoldable pub sumOf : List ℕ → ℕ
 sumOf [] = 0
 sumOf (n ∷ ns) = n + sumOf ns
 
--- coded bits
+-- how many bits the blocks of a frame of n bytes have, the fill left out
 abbrev pub bitsFor : ℕ → ℕ → ℕ
 bitsFor mode n = blockBits mode * blocksIn mode n
 
@@ -85,8 +86,12 @@ sentB level mode frame scheme = placed level (symbolsFor mode (length frame) sch
 
 -- ---- and back
 
--- the bits of points
+-- the label of a point of n bits
+abbrev pub labelHeld : ℕ → Point → Label
+labelHeld n p = labelOf n (levelI p) (levelQ p)
+
+-- the bits that points stand for: of each, its label in as many bits as its entry of the scheme says, b(n-1) first
 unfoldable pub labelled : List ℕ → List Point → List ℕ
 labelled [] ps = []
 labelled (n ∷ ns) [] = []
-labelled (n ∷ ns) (p ∷ ps) = digits n (labelNumber (labelOf n (levelI p) (levelQ p))) ++ labelled ns ps
+labelled (n ∷ ns) (p ∷ ps) = digits n (labelNumber (labelHeld n p)) ++ labelled ns ps

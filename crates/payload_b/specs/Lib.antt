@@ -1,4 +1,4 @@
 pub mod CodedB
 pub mod AnswersB
 pub mod PromiseB
-pub mod HeldB
+pub mod PlanB

@@ -3,19 +3,20 @@
 -- Assumes nothing.
 use mathlib.Core.Path.{_≡_}
 use mathlib.Core.Logic.{_⊎_, _≢_}
-use mathlib.Core.Bool.{cond, _&&_}
-use mathlib.Core.List.{List, [], _∷_, _++_}
-use Prim.Native.Nat.{ℕ, suc, _*_, _%_, _≤_, _<_}
+use mathlib.Core.Bool.{cond, _&&_, _||_}
+use mathlib.Core.List.{List, _++_, zipWith}
+use Prim.Native.Nat.{ℕ, _*_, _%_, _≤_, _<_}
 use lib.Dec.{eqb, leb, ltb}
 use lib.IntN.{ℤ}
 use lib.ListN.{length, take, drop, replicate}
+use Rattle.ground.specs.First.{firstIn}
 use Rattle.bch.specs.Words.{differ}
 use Rattle.bch.specs.Codes.{Within}
 use Rattle.points.specs.declared.Point.{Point}
-use Rattle.points.specs.Constellations.{labelOf, isStray, levelI, levelQ}
+use Rattle.points.specs.Constellations.{isStray, levelI, levelQ}
 use Rattle.payload.specs.Bits.{Bytes}
 use Rattle.payload.specs.Grids.{received, indexOf, firstFilled}
-use Rattle.payload_b.specs.CodedB.{blockBytes, blockBits, codeB, blocksIn, bitsFor, codedB, symbolsFor, repeated, sentB, labelled}
+use Rattle.payload_b.specs.CodedB.{blockBytes, blockBits, codeB, blocksIn, bitsFor, codedB, symbolsFor, repeated, sentB, labelHeld, labelled}
 use Rattle.payload.specs.Answers.{sentNumber, sentPlace}
 use Rattle.payload_b.specs.AnswersB.{numberB, placeB, mendedB}
 use Rattle.payload.specs.Checked.{Checked, fails, passes, room}
@@ -25,9 +26,8 @@ use Rattle.payload_b.specs.declared.ReceivedB.{ReceivedB}
 -- ---- the checks 1, 2, 5 and 6, which both directions begin with
 
 -- the first entry of a scheme outside 2..10; the length where there is none
-unfoldable pub badEntry : List ℕ → ℕ
-badEntry [] = 0
-badEntry (n ∷ ns) = cond (leb 2 n && leb n 10) (suc (badEntry ns)) 0
+abbrev pub badEntry : List ℕ → ℕ
+badEntry scheme = firstIn (λ n. ltb n 2 || ltb 10 n) scheme
 
 -- and then the checks that follow
 abbrev pub planned : ℕ → ℕ → List ℕ → Checked → Checked
@@ -62,10 +62,8 @@ SendingB mode frame scheme is qs = SendsB (sendCheckedB mode frame scheme is qs)
 -- ---- receive
 
 -- the place of the first point that is none of its sub-carrier's constellation; the number of points where there is none
-unfoldable pub strayIn : List ℕ → List Point → ℕ
-strayIn [] ps = 0
-strayIn (n ∷ ns) [] = 0
-strayIn (n ∷ ns) (p ∷ ps) = cond (isStray (labelOf n (levelI p) (levelQ p))) 0 (suc (strayIn ns ps))
+abbrev pub strayIn : List ℕ → List Point → ℕ
+strayIn scheme ps = firstIn isStray (zipWith labelHeld scheme ps)
 
 -- checks 7 and 8, over m OFDM symbols: 7 over all before 8 begins
 abbrev pub pointsCheckedB : ℕ → List ℕ → List ℤ → List ℤ → Checked

@@ -1,14 +1,14 @@
 // What the checks 1, 2, 5 and 6 find out about a frame of Payload B.
 ghost use mathlib.Core.Path.{_≡_};
 ghost use Prim.Native.Nat.{min};
-ghost use lib.ListN.{length};
+ghost use lib.ListN.{take};
 ghost use Rattle.payload_b.specs.CodedB.{blockBytes, blockBits, sumOf, symbolsFor};
 ghost use Rattle.payload_b.specs.PromiseB.{badEntry};
-ghost use Rattle.payload_b.specs.HeldB.{Scheme, Judged};
+ghost use Rattle.payload_b.specs.PlanB.{Scheme, Judged};
 use payload::Refusal;
 
 // The bytes of a block.
-pub(crate) fn block_bytes(mode: u8) -> usize
+pub fn block_bytes(mode: u8) -> usize
     ensures { λ r. ⌜ r ≡ blockBytes mode ⌝ }
 {
     if mode == 0 {
@@ -18,7 +18,7 @@ pub(crate) fn block_bytes(mode: u8) -> usize
 }
 
 // The bits sent for a block.
-pub(crate) fn block_bits(mode: u8) -> usize
+pub fn block_bits(mode: u8) -> usize
     ensures { λ r. ⌜ r ≡ blockBits mode ⌝ }
 {
     if mode == 0 {
@@ -27,14 +27,16 @@ pub(crate) fn block_bits(mode: u8) -> usize
     if mode == 1 { 508 } else { 504 }
 }
 
-// The bits of an OFDM symbol.
-pub(crate) fn sum(scheme: &[u8]) -> usize
-    requires { ⌜ length (now scheme) ≡ 210 ⌝ }
-    ensures { λ r. ⌜ r ≡ sumOf (now (scheme .entry)) ⌝ }
+// The bits of an OFDM symbol: those of the scheme's 210 entries.
+pub fn sum(scheme: &[u8]) -> usize
+    ensures { λ r. ⌜ r ≡ sumOf (take 210 (now (scheme .entry))) ⌝ }
 {
     let mut n: usize = 0;
     let mut i: usize = 0;
     while i < scheme.len() {
+        if i == 210 {
+            return n;
+        }
         n += scheme[i] as usize;
         i += 1;
     }
@@ -59,7 +61,7 @@ fn bad_entry(scheme: &[u8]) -> usize
 }
 
 // The OFDM symbols needed, or 257 where more than 256 are: no scheme has room for more than 67,200 blocks.
-pub(crate) fn symbols(mode: u8, size: usize, scheme: &[u8]) -> usize
+fn symbols(mode: u8, size: usize, scheme: &[u8]) -> usize
     requires { ⌜ Scheme (now scheme) ⌝ }
     ensures { λ r. ⌜ r ≡ min (symbolsFor mode size (now (scheme .entry))) 257 ⌝ }
 {
@@ -72,14 +74,14 @@ pub(crate) fn symbols(mode: u8, size: usize, scheme: &[u8]) -> usize
     if m < 257 { m } else { 257 }
 }
 
-// Whether the checks pass.
+// Whether the checks pass, and how many OFDM symbols are needed.
 pub enum Verdict {
-    Passes,
+    Passes(usize),
     Fails(Refusal),
 }
 
 // The checks 1, 2, 5 and 6.
-pub(crate) fn judged(mode: u8, size: usize, scheme: &[u8]) -> Verdict
+pub fn judged(mode: u8, size: usize, scheme: &[u8]) -> Verdict
     ensures { λ r. ⌜ Judged mode size (now (scheme .entry)) r ⌝ }
 {
     if 2 < mode {
@@ -98,8 +100,9 @@ pub(crate) fn judged(mode: u8, size: usize, scheme: &[u8]) -> Verdict
     if bad < 210 {
         return Verdict::Fails(Refusal::BadScheme(bad));
     }
-    if 256 < symbols(mode, size, scheme) {
+    let needed = symbols(mode, size, scheme);
+    if 256 < needed {
         return Verdict::Fails(Refusal::TooManySymbols);
     }
-    Verdict::Passes
+    Verdict::Passes(needed)
 }

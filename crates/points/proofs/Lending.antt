@@ -10,11 +10,12 @@ use lib.Dec.{T, eqb}
 use lib.IntN.{ℤ}
 use lib.ListN.{length, getD, List·getD-eq-default}
 use borrow.Author.Tests.{ne-eqb, le-leb, lt-leb, le-ltb, eqb-true}
+use Rattle.ground.specs.First.{upFrom}
 use Rattle.points.specs.declared.Point.{Point}
 use Rattle.points.specs.declared.Point.the-variants.{At, Nothing}
 use Rattle.points.specs.Constellations.{tables, columns, points, pointOf, labelOf, isAt, levelI, levelQ}
-use Rattle.points.specs.Lent.{partsOf, quarterOf, quarterPoint, pointIn, guessIn, labelIn, confirmed, quarterCells, word, words, ourCells, upFrom, placeFrom, startsFrom, quarterLows, ourQuadrants}
-use Rattle.points.proofs.Computed.{all, all-at, all-equal, every, every-at, is-true}
+use Rattle.points.specs.Lent.{partsOf, quarterOf, quarterPoint, pointIn, guessIn, labelIn, confirmed, quarterCells, word, words, ourCells, placeFrom, startsFrom, quarterLows, ourQuadrants}
+use Rattle.ground.proofs.Tests.{all, all-at, all-equal, every, every-at, is-true}
 use Rattle.points.proofs.Places.{no-point, is-at, Tells, tells, tells-is, look-again}
 
 -- ---- any table: a number of bits that has no constellation
@@ -36,7 +37,7 @@ too-many cells n l h = unknown cells n l (λ e. omega arith) (no-quarter n h)
 
 -- ---- how many points there are
 
-pub no-points : (n : ℕ) → 11 ≤ n → points n ≡ []
+no-points : (n : ℕ) → 11 ≤ n → points n ≡ []
 unfolding points columns tables
 no-points n h = ap columns (List·getD-eq-default tables [] h)
 
@@ -68,7 +69,7 @@ is-point : (p : Point) → T (isPoint p) → p ≡ At (levelI p) (levelQ p)
 is-point (At i q) t = refl
 is-point Nothing t = absurd t
 
-some-test : T (all 11 (λ n. every (λ l p. isPoint p) (points n)))
+some-test : T (all 11 (λ n. every (λ l p. isPoint p) 0 (points n)))
 unfolding points columns tables
 some-test = tt
 
@@ -76,13 +77,13 @@ some-test = tt
 pub some-point : (n l : ℕ) → l < length (points n) → pointOf n l ≡ At (levelI (pointOf n l)) (levelQ (pointOf n l))
 unfolding pointOf
 some-point n l h =
-    let t = all-at 11 (λ n. every (λ l p. isPoint p) (points n)) some-test n (listed n l h) in
-    is-point (getD (points n) l Nothing) (every-at (λ l p. isPoint p) (points n) Nothing t l h)
+    let t = all-at 11 (λ n. every (λ l p. isPoint p) 0 (points n)) some-test n (listed n l h) in
+    is-point (getD (points n) l Nothing) (every-at (λ l p. isPoint p) Nothing (points n) t l h)
 
 abbrev reads : ℕ → ℕ → Point → Bool
 reads n l p = isAt (pointIn ourCells n l) (levelI p) (levelQ p)
 
-reads-test : T (all 11 (λ n. every (reads n) (points n)))
+reads-test : T (all 11 (λ n. every (reads n) 0 (points n)))
 unfolding pointIn pointOf ourCells quarterCells words word quarterOf points columns tables
 reads-test = tt
 
@@ -91,8 +92,8 @@ within : (n l : ℕ) → l < length (points n) → pointIn ourCells n l ≡ poin
 unfolding pointOf
 within n l h =
     let p = getD (points n) l Nothing in
-    let t = all-at 11 (λ n. every (reads n) (points n)) reads-test n (listed n l h) in
-    let r = every-at (reads n) (points n) Nothing t l h in
+    let t = all-at 11 (λ n. every (reads n) 0 (points n)) reads-test n (listed n l h) in
+    let r = every-at (reads n) Nothing (points n) t l h in
     is-at (pointIn ourCells n l) (levelI p) (levelQ p) (is-true (reads n l p) r) ∙ sym (some-point n l h)
 
 beyond : (n l : ℕ) → length (points n) ≤ l → pointIn ourCells n l ≡ pointOf n l

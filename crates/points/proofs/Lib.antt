@@ -1,5 +1,4 @@
 -- The laws of the crate, in the order in which they rest on each other.
-mod Computed
 pub mod Signed
 pub mod Places
 pub mod Lending

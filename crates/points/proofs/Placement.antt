@@ -10,7 +10,7 @@ use borrow.Author.Tests.{le-leb, lt-leb}
 use Rattle.points.specs.declared.Carrier.{Carrier}
 use Rattle.points.specs.declared.Carrier.the-variants.{Holds, Empty}
 use Rattle.points.specs.Grid.{within, carrierAt, placeOf}
-use Rattle.points.proofs.Computed.{all, all-at, both}
+use Rattle.ground.proofs.Tests.{all, all-at, both}
 
 inside : (from to n : ℕ) → from ≤ n → n ≤ to → within from to n ≡ true
 inside from to n a b = rw (le-leb from n a, le-leb n to b)

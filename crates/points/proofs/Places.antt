@@ -17,7 +17,7 @@ use Rattle.points.specs.declared.Label.{Label}
 use Rattle.points.specs.declared.Label.the-variants.{Of, Stray}
 use Rattle.points.specs.Constellations.{same, isAt, next, labelAt, levelI, levelQ}
 use Rattle.points.specs.Lent.{confirmed}
-use Rattle.points.proofs.Computed.{both, every, every-at}
+use Rattle.ground.proofs.Tests.{both, every, every-at}
 
 -- ---- what the tests of levels and points say
 
@@ -31,7 +31,7 @@ same-refl : (x : ℤ) → same x x ≡ true
 same-refl (pos a) = eq-eqb a a refl
 same-refl (negsuc a) = eq-eqb a a refl
 
-pub at-itself : (i q : ℤ) → isAt (At i q) i q ≡ true
+at-itself : (i q : ℤ) → isAt (At i q) i q ≡ true
 at-itself i q = rw (same-refl i, same-refl q)
 
 pub is-at : (p : Point) (i q : ℤ) → isAt p i q ≡ true → p ≡ At i q
@@ -81,7 +81,7 @@ unfolding next
 found p i q true h rest r = (0, refl)
 found p i q false h rest r = (suc (r .0), ap next (r .1))
 
-pub has-label : (ps : List Point) (i q : ℤ) (l : ℕ) → getD ps l Nothing ≡ At i q → (m : ℕ) × (labelAt ps i q ≡ Of m)
+has-label : (ps : List Point) (i q : ℤ) (l : ℕ) → getD ps l Nothing ≡ At i q → (m : ℕ) × (labelAt ps i q ≡ Of m)
 unfolding labelAt
 has-label [] i q l e = no-point e
 has-label (p ∷ ps) i q zero e = (0, rw (ap (λ (x : Point). isAt x i q) e ∙ at-itself i q))
@@ -100,12 +100,12 @@ unfoldable pub Tells : (ℤ → ℤ → ℕ) → List Point → Type 0
 Tells g ps = (l : ℕ) (i q : ℤ) → getD ps l Nothing ≡ At i q → g i q ≡ l
 
 abbrev pub tells : (ℤ → ℤ → ℕ) → List Point → Bool
-tells g ps = every (λ l p. eqb (g (levelI p) (levelQ p)) l) ps
+tells g ps = every (λ l p. eqb (g (levelI p) (levelQ p)) l) 0 ps
 
 pub tells-is : (g : ℤ → ℤ → ℕ) (ps : List Point) → T (tells g ps) → Tells g ps
 unfolding Tells
 tells-is g ps t l i q e =
-    let found = every-at (λ l p. eqb (g (levelI p) (levelQ p)) l) ps Nothing t l (in-list ps i q l e) in
+    let found = every-at (λ l p. eqb (g (levelI p) (levelQ p)) l) Nothing ps t l (in-list ps i q l e) in
     eqb→eq (g i q) l (subst (λ (p : Point). T (eqb (g (levelI p) (levelQ p)) l)) e found)
 
 module _ (g : ℤ → ℤ → ℕ) (ps : List Point) (right : Tells g ps) where

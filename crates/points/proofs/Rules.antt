@@ -2,25 +2,24 @@
 -- and holds of the nine tables by a test that is computed over them. Assumes nothing.
 use mathlib.Core.Path.{_≡_, refl, sym, ap, subst, _∙_}
 use mathlib.Core.Bool.{Bool, true, _||_, cond}
-use mathlib.Core.List.{List, map}
+use mathlib.Core.List.{map}
 use Prim.Native.Nat.{ℕ, _+_, _-_, _*_, _/_, _%_, _^_, _<_, _≤_}
 use native.Mathlib.Omega.{arith}
 use lib.Dec.{T, eqb, eqb→eq}
 use lib.IntN.{ℤ, negℤ}
-use lib.ListN.{length, getD, drop}
-use lib.Seq.{getD-drop}
+use lib.ListN.{length, getD}
 use lib.Pow.{pow-add}
 use borrow.Author.Tests.{eq-eqb, ne-eqb, le-leb}
 use Rattle.points.specs.declared.Point.{Point}
 use Rattle.points.specs.declared.Point.the-variants.{At, Nothing}
 use Rattle.points.specs.declared.Label.the-variants.{Of}
 use Rattle.points.specs.Constellations.{tables, columns, points, pointOf, labelOf, isAt, levelI, levelQ}
-use Rattle.points.specs.Lent.{quarterOf}
+use Rattle.points.specs.Lent.{quarterOf, pointIn, quarterCells, word, words, ourCells}
 use Rattle.points.specs.Rules.{printed, square, squares, factors, walk, border, beside, round, times}
-use Rattle.points.proofs.Computed.{all, all-at, all-equal, every, every-at, alongside, alongside-at, is-true}
+use Rattle.ground.proofs.Tests.{all, all-at, all-equal, every, every-at, is-true}
 use Rattle.points.proofs.Places as places
 use Rattle.points.proofs.Places.{is-at, in-list}
-use Rattle.points.proofs.Lending.{count, listed, some-point, guess, guess-tells}
+use Rattle.points.proofs.Lending.{count, listed, some-point, point-ours, guess, guess-tells}
 
 -- ---- 2^n different points
 
@@ -66,20 +65,19 @@ squares-sum n h = all-equal 11 (λ n. squares (points n)) (λ n. 2 ^ n * getD fa
 
 -- ---- setting a bit negates a level
 
--- where the bit worth s is clear in l, the point r at s + l is what f makes of p, the point at l
-negates : ℕ → (Point → Point) → ℕ → Point → Point → Bool
-negates s f l p r = cond (eqb (l / s % 2) 0) (isAt r (levelI (f p)) (levelQ (f p))) true
+-- where the bit worth s is clear in l, the point at s + l, read in our cells, is what f makes of p, the point at l
+negates : ℕ → ℕ → (Point → Point) → ℕ → Point → Bool
+negates n s f l p = cond (eqb (l / s % 2) 0) (isAt (pointIn ourCells n (s + l)) (levelI (f p)) (levelQ (f p))) true
 
-setting : ℕ → (Point → Point) → List Point → Bool
-setting s f ps = alongside Nothing (negates s f) ps (drop s ps)
+setting : ℕ → ℕ → (Point → Point) → Bool
+setting n s f = every (negates n s f) 0 (points n)
 
-setting-at : (s : ℕ) (f : Point → Point) (ps : List Point) → T (setting s f ps) →
-    (l : ℕ) (i q : ℤ) → l / s % 2 ≡ 0 → getD ps l Nothing ≡ At i q →
-    getD ps (s + l) Nothing ≡ At (levelI (f (At i q))) (levelQ (f (At i q)))
-unfolding negates setting
-setting-at s f ps t l i q clear e =
-    let r = alongside-at Nothing (negates s f) ps (drop s ps) t l (in-list ps i q l e) in
-    is-at (getD ps (s + l) Nothing) _ _ (is-true _ (rw (getD-drop s ps l Nothing, e, eq-eqb (l / s % 2) 0 clear) at r))
+setting-at : (n s : ℕ) (f : Point → Point) → T (setting n s f) →
+    (l : ℕ) (i q : ℤ) → l / s % 2 ≡ 0 → pointOf n l ≡ At i q → pointOf n (s + l) ≡ At (levelI (f (At i q))) (levelQ (f (At i q)))
+unfolding negates setting pointOf
+setting-at n s f t l i q clear e =
+    let r = every-at (negates n s f) Nothing (points n) t l (in-list (points n) i q l e) in
+    sym (point-ours n (s + l)) ∙ is-at (pointIn ourCells n (s + l)) _ _ (is-true _ (rw (e, eq-eqb (l / s % 2) 0 clear) at r))
 
 abbrev negatedI : Point → Point
 negatedI p = At (negℤ (levelI p)) (levelQ p)
@@ -87,33 +85,30 @@ negatedI p = At (negℤ (levelI p)) (levelQ p)
 abbrev negatedQ : Point → Point
 negatedQ p = At (levelI p) (negℤ (levelQ p))
 
-first-test : T (all 11 (λ n. eqb n 3 || setting (2 ^ (n - 1)) negatedI (points n)))
-unfolding negates setting points columns tables
+first-test : T (all 11 (λ n. eqb n 3 || setting n (2 ^ (n - 1)) negatedI))
+unfolding negates setting pointIn ourCells quarterCells words word quarterOf points columns tables
 first-test = tt
 
-second-test : T (all 11 (λ n. eqb n 3 || setting (2 ^ (n - 2)) negatedQ (points n)))
-unfolding negates setting points columns tables
+second-test : T (all 11 (λ n. eqb n 3 || setting n (2 ^ (n - 2)) negatedQ))
+unfolding negates setting pointIn ourCells quarterCells words word quarterOf points columns tables
 second-test = tt
 
 -- a test of every n but 3, at one of them that has a point
 but-eight : (test : ℕ → Bool) → T (all 11 (λ n. eqb n 3 || test n)) →
-    (n l : ℕ) (i q : ℤ) → (n ≡ 3 → ⊥) → getD (points n) l Nothing ≡ At i q → T (test n)
+    (n l : ℕ) (i q : ℤ) → (n ≡ 3 → ⊥) → pointOf n l ≡ At i q → T (test n)
+unfolding pointOf
 but-eight test t n l i q no3 e =
     rw (ne-eqb n 3 no3) at (all-at 11 (λ n. eqb n 3 || test n) t n (listed n l (in-list (points n) i q l e)))
 
 pub first-bit-negates : (n l : ℕ) (i q : ℤ) → (n ≡ 3 → ⊥) → l / 2 ^ (n - 1) % 2 ≡ 0 →
     pointOf n l ≡ At i q → pointOf n (2 ^ (n - 1) + l) ≡ At (negℤ i) q
-unfolding pointOf
 first-bit-negates n l i q no3 clear e =
-    let t = but-eight (λ n. setting (2 ^ (n - 1)) negatedI (points n)) first-test n l i q no3 e in
-    setting-at (2 ^ (n - 1)) negatedI (points n) t l i q clear e
+    setting-at n (2 ^ (n - 1)) negatedI (but-eight (λ n. setting n (2 ^ (n - 1)) negatedI) first-test n l i q no3 e) l i q clear e
 
 pub second-bit-negates : (n l : ℕ) (i q : ℤ) → (n ≡ 3 → ⊥) → l / 2 ^ (n - 2) % 2 ≡ 0 →
     pointOf n l ≡ At i q → pointOf n (2 ^ (n - 2) + l) ≡ At i (negℤ q)
-unfolding pointOf
 second-bit-negates n l i q no3 clear e =
-    let t = but-eight (λ n. setting (2 ^ (n - 2)) negatedQ (points n)) second-test n l i q no3 e in
-    setting-at (2 ^ (n - 2)) negatedQ (points n) t l i q clear e
+    setting-at n (2 ^ (n - 2)) negatedQ (but-eight (λ n. setting n (2 ^ (n - 2)) negatedQ) second-test n l i q no3 e) l i q clear e
 
 -- ---- 8QAM walks once round the square
 
@@ -137,7 +132,7 @@ walk-length = refl
 -- ---- the labels as they are printed
 
 in-order : ℕ → Bool
-in-order n = every (λ k l. eqb l k) (printed n)
+in-order n = every (λ k l. eqb l k) 0 (printed n)
 
 order-test : T (all 11 in-order)
 unfolding in-order printed tables
@@ -148,7 +143,7 @@ pub printed-label : (n k : ℕ) → n ≤ 10 → k < length (printed n) → getD
 unfolding in-order
 printed-label n k a b =
     let t = all-at 11 in-order order-test n (omega arith) in
-    eqb→eq (getD (printed n) k 0) k (every-at (λ k l. eqb l k) (printed n) 0 t k b)
+    eqb→eq (getD (printed n) k 0) k (every-at (λ k l. eqb l k) 0 (printed n) t k b)
 
 many-test : T (all 11 (λ n. eqb (length (printed n)) (length (points n))))
 unfolding printed points columns tables

@@ -27,7 +27,7 @@ pub from-pos : (n : ℕ) → negsuc 0 -ℤ pos n ≡ negsuc n
 from-pos zero = refl
 from-pos (suc n) = ap (λ (m : ℕ). negsuc (suc m)) (zero-add n)
 
-pub from-neg : (n : ℕ) → negsuc 0 -ℤ negsuc n ≡ pos n
+from-neg : (n : ℕ) → negsuc 0 -ℤ negsuc n ≡ pos n
 from-neg n = rw (le-ltb (suc n) 1 (omega arith)) (ap pos (omega arith))
 
 -- the size of a number that fits, fits

@@ -1,7 +1,7 @@
 -- DQPSK: the turns are Table 1, and bits and points give each other back.
 -- Assumes nothing.
-use mathlib.Core.Path.{_≡_, refl, ap}
-use mathlib.Core.Bool.{false, cond}
+use mathlib.Core.Path.{_≡_, refl, sym, ap}
+use mathlib.Core.Bool.{true, false, cond, true≢false}
 use mathlib.Core.List.{List, [], _∷_, map}
 use Prim.Native.Nat.{ℕ, zero, suc, _+_, _-_, _*_, _/_, _%_, _<_}
 use native.Mathlib.Nat.{mod-lt}
@@ -16,7 +16,9 @@ use Rattle.points.specs.declared.Label.the-variants.{Of, Stray}
 use Rattle.points.specs.Constellations.{labelAt, next, labelNumber, isStray, levelI, levelQ}
 use Rattle.points.specs.Lent.{partsOf, phaseGuess, confirmed}
 use Rattle.points.specs.Dqpsk.{table1, phases, turns, turn, dibitTo, phasePoint, phaseOf, turnedFrom, turned, dibitsFrom, dibits, phaseAt, strayAt, Bits, after}
-use Rattle.points.proofs.Computed.{all, all-at, all-equal}
+use Rattle.ground.specs.First.{firstIn}
+use Rattle.ground.proofs.Tests.{all, all-at, all-equal}
+use Rattle.ground.proofs.Firsts.{first}
 use Rattle.points.proofs.Places.{Tells, tells, tells-is, look-again, point-of-label, in-list, none-there}
 
 -- ---- the phase of a point
@@ -36,7 +38,7 @@ pub phase-again : (i q : ℤ) →
 unfolding guess phasePoint phaseOf
 phase-again i q = look-again guess phases guess-tells i q
 
-pub point-of-phase : (i q : ℤ) (phase : ℕ) → phaseOf i q ≡ Of phase → phasePoint phase ≡ At i q
+point-of-phase : (i q : ℤ) (phase : ℕ) → phaseOf i q ≡ Of phase → phasePoint phase ≡ At i q
 unfolding phasePoint phaseOf
 point-of-phase i q phase e = point-of-label phases i q phase e
 
@@ -64,14 +66,14 @@ unfolding turn dibitTo
 back-test = tt
 
 -- the dibit read is the dibit that was turned by, and back
-pub dibit-turn : (phase dibit : ℕ) → phase < 4 → dibit < 4 → dibitTo phase (turn phase dibit) ≡ dibit
+dibit-turn : (phase dibit : ℕ) → phase < 4 → dibit < 4 → dibitTo phase (turn phase dibit) ≡ dibit
 dibit-turn = pairs-equal (λ p d. dibitTo p (turn p d)) (λ p d. d) back-test
 
 forth-test : T (all 4 (λ p. all 4 (λ r. eqb (turn p (dibitTo p r)) r)))
 unfolding turn dibitTo
 forth-test = tt
 
-pub turn-dibit : (phase to : ℕ) → phase < 4 → to < 4 → turn phase (dibitTo phase to) ≡ to
+turn-dibit : (phase to : ℕ) → phase < 4 → to < 4 → turn phase (dibitTo phase to) ≡ to
 turn-dibit = pairs-equal (λ p r. turn p (dibitTo p r)) (λ p r. r) forth-test
 
 -- ---- a frame's bits, turned into points and read back
@@ -132,7 +134,7 @@ step p ps phase h later Stray r e = absurd (omega arith)
 
 turned-dibits-from : (ps : List Point) (phase : ℕ) → phase < 4 → strayAt ps ≡ length ps →
     turnedFrom phase (dibitsFrom phase ps) ≡ ps
-unfolding turnedFrom dibitsFrom strayAt
+unfolding turnedFrom dibitsFrom firstIn
 turned-dibits-from [] phase h e = refl
 turned-dibits-from (p ∷ ps) phase h e =
     step p ps phase h (λ to k. turned-dibits-from ps to k) (phaseOf (levelI p) (levelQ p)) refl e
@@ -157,7 +159,7 @@ unfolding turned
 length-turned bits m e = length-turned-from bits m 0 e
 
 legal-turned-from : (bits : List ℕ) (phase : ℕ) → strayAt (turnedFrom phase bits) ≡ length (turnedFrom phase bits)
-unfolding turnedFrom strayAt
+unfolding turnedFrom firstIn
 legal-turned-from [] phase = refl
 legal-turned-from (b ∷ []) phase = refl
 legal-turned-from (b ∷ (c ∷ bits)) phase =
@@ -205,31 +207,14 @@ dibits-bits ps = dibits-bits-from ps 0
 
 -- ---- the first stray point
 
-there : (p : Point) (ps : List Point) → (strayAt ps < length ps → phaseAt ps (strayAt ps) ≡ Stray) →
-    (l : Label) → phaseAt (p ∷ ps) 0 ≡ l → cond (isStray l) 0 (suc (strayAt ps)) < suc (length ps) →
-    phaseAt (p ∷ ps) (cond (isStray l) 0 (suc (strayAt ps))) ≡ Stray
-there p ps later (Of phase) r h = later (omega arith)
-there p ps later Stray r h = r
+stray : (l : Label) → isStray l ≡ true → l ≡ Stray
+stray (Of phase) e = absurd (true≢false (sym e))
+stray Stray e = refl
 
 -- unless it is the number of points, a stray point stands at strayAt
 pub stray-there : (ps : List Point) → strayAt ps < length ps → phaseAt ps (strayAt ps) ≡ Stray
-unfolding strayAt
-stray-there [] h = absurd (omega arith)
-stray-there (p ∷ ps) h = there p ps (stray-there ps) (phaseOf (levelI p) (levelQ p)) refl h
-
-before : (p : Point) (ps : List Point) (k : ℕ) → (k < strayAt ps → isStray (phaseAt ps k) ≡ false) →
-    (l : Label) → phaseAt (p ∷ ps) 0 ≡ l → suc k < cond (isStray l) 0 (suc (strayAt ps)) →
-    isStray (phaseAt (p ∷ ps) (suc k)) ≡ false
-before p ps k later (Of phase) r h = later (omega arith)
-before p ps k later Stray r h = absurd (omega arith)
-
-first : (l : Label) (n : ℕ) → 0 < cond (isStray l) 0 n → isStray l ≡ false
-first (Of phase) n h = refl
-first Stray n h = absurd (omega arith)
+stray-there ps h = stray _ (first _ Nothing ps .there h)
 
 -- and none before it
 pub legal-before : (ps : List Point) (k : ℕ) → k < strayAt ps → isStray (phaseAt ps k) ≡ false
-unfolding strayAt
-legal-before [] k h = absurd (omega arith)
-legal-before (p ∷ ps) zero h = first (phaseOf (levelI p) (levelQ p)) (suc (strayAt ps)) h
-legal-before (p ∷ ps) (suc k) h = before p ps k (legal-before ps k) (phaseOf (levelI p) (levelQ p)) refl h
+legal-before ps k h = first _ Nothing ps .before k h

@@ -1,9 +1,9 @@
 -- DQPSK, clause 6.4.2: each dibit turns the last point by quarter turns.
-use Prim.Native.Nat.{ℕ, suc, _+_, _-_, _*_, _/_, _%_, _<_}
-use mathlib.Core.Bool.{cond}
+use Prim.Native.Nat.{ℕ, _+_, _-_, _*_, _/_, _%_, _<_}
 use mathlib.Core.List.{List, [], _∷_}
 use lib.IntN.{ℤ, pos, negsuc}
 use lib.ListN.{length, getD}
+use Rattle.ground.specs.First.{firstIn}
 use Rattle.points.specs.declared.Point.{Point}
 use Rattle.points.specs.declared.Point.the-variants.{At, Nothing}
 use Rattle.points.specs.declared.Label.{Label}
@@ -93,7 +93,6 @@ Bits bits = (k : ℕ) → k < length bits → getD bits k 0 < 2
 abbrev pub phaseAt : List Point → ℕ → Label
 phaseAt ps k = phaseOf (levelI (getD ps k Nothing)) (levelQ (getD ps k Nothing))
 
--- the place of the first stray point, and the number of points where there is none
-unfoldable pub strayAt : List Point → ℕ
-strayAt [] = 0
-strayAt (p ∷ ps) = cond (isStray (phaseOf (levelI p) (levelQ p))) 0 (suc (strayAt ps))
+-- the place of the first point that is none of the four phases; the number of points where there is none
+abbrev pub strayAt : List Point → ℕ
+strayAt ps = firstIn (λ p. isStray (phaseOf (levelI p) (levelQ p))) ps

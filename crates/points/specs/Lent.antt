@@ -9,6 +9,7 @@ use lib.Dec.{eqb, leb, ltb}
 use lib.IntN.{ℤ, pos, negsuc}
 use lib.ListN.{getD, take, drop}
 use lib.Signed.{mag}
+use Rattle.ground.specs.First.{upFrom}
 use Rattle.points.specs.declared.Point.{Point}
 use Rattle.points.specs.declared.Point.the-variants.{At, Nothing}
 use Rattle.points.specs.declared.Label.{Label}
@@ -116,11 +117,6 @@ words (suc k) bytes = word 0 (take 8 bytes) ∷ words k (drop 8 bytes)
 -- the cell of low bits l at byte 2^(n-2) + l
 unfoldable pub ourCells : List ℕ
 ourCells = words 64 (0 ∷ each quarterCells)
-
--- k, k + 1 and so on, n numbers
-unfoldable pub upFrom : ℕ → ℕ → List ℕ
-upFrom k zero = []
-upFrom k (suc n) = k ∷ upFrom (suc k) n
 
 -- the place of x in a list, counted from k, and 0 where it does not stand there
 unfoldable pub placeFrom : ℕ → ℕ → List ℕ → ℕ

@@ -13,7 +13,7 @@ use lib.Seq.{take-all, drop-cons, drop-set-lt, getD-set-same, lt-length-set}
 use Rattle.report.specs.Made.{decimalIn, decimal}
 
 -- at most k digits
-pub length-decimalIn : (k n : ℕ) → length (decimalIn k n) ≤ k
+length-decimalIn : (k n : ℕ) → length (decimalIn k n) ≤ k
 unfolding decimalIn
 length-decimalIn zero n = omega arith
 length-decimalIn (suc k) n = by (ltb n 10) (length-decimalIn k (n / 10))

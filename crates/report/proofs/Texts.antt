@@ -1,12 +1,13 @@
 -- Texts: their length, and a text with more bytes behind it.
 -- Assumes nothing.
-use mathlib.Core.Path.{_≡_, refl, sym, ap, ap₂, _∙_}
-use mathlib.Core.List.{List, _++_, append-nil, append-assoc}
-use Prim.Native.Nat.{ℕ, zero, suc, _+_, _-_, _≤_}
+use mathlib.Core.Path.{_≡_, refl, sym, ap, _∙_}
+use mathlib.Core.List.{List, _++_}
+use Prim.Native.Nat.{ℕ, _+_, _-_, _≤_}
 use native.Mathlib.Omega.{arith}
 use borrow.Rule.Slice.PartMut.{putMid}
-use lib.ListN.{length, take, drop, replicate, length-append, length-replicate, drop-of-length-le}
-use lib.Seq.{take-at, drop-at, take-length, length-take-le}
+use lib.ListN.{length, take, drop, replicate, length-append, length-replicate, replicate-append-replicate}
+use lib.Seq.{take-at, drop-at, take-append-seam, drop-append-add}
+use Rattle.payload.proofs.Copies.{put-part}
 use Rattle.report.specs.declared.Text.{Text}
 use Rattle.report.specs.Lines.{textOf, Counted}
 use Rattle.report.specs.Made.{Room}
@@ -14,17 +15,15 @@ use Rattle.report.specs.Made.{Room}
 abbrev zeros : ℕ → List ℕ
 zeros n = replicate n 0
 
-drop-zeros : (n m : ℕ) → drop n (zeros m) ≡ zeros (m - n)
-drop-zeros zero m = let e : m - 0 ≡ m = omega arith in rw e
-drop-zeros (suc n) zero = let e : 0 - suc n ≡ 0 = omega arith in rw e
-drop-zeros (suc n) (suc m) = let e : suc m - suc n ≡ m - n = omega arith in rw e (drop-zeros n m)
+drop-zeros : (n m : ℕ) → drop n (zeros (n + m)) ≡ zeros m
+drop-zeros n m = ap (drop n) (sym (replicate-append-replicate n m 0)) ∙ drop-at (zeros n) (zeros m) n (length-replicate n 0)
 
 module _ (held : List ℕ) where
-  pub count-text : textOf held .count ≡ length held
+  count-text : textOf held .count ≡ length held
   unfolding textOf
   count-text = refl
 
-  pub length-text : length held ≤ 128 → length (textOf held .bytes) ≡ 128
+  length-text : length held ≤ 128 → length (textOf held .bytes) ≡ 128
   unfolding textOf
   length-text h = rw (length-append held (replicate (128 - length held) 0), length-replicate) (omega arith)
 
@@ -37,25 +36,15 @@ module _ (held more : List ℕ) (short : length held + length more ≤ 128) wher
   abbrev bytes : List ℕ
   bytes = held ++ zeros (128 - length held)
 
-  behind : drop (length held) bytes ≡ zeros (128 - length held)
-  behind = drop-at held (zeros (128 - length held)) (length held) refl
-
-  -- what `bytes::copy` leaves in a part as long
-  copied-all : (part : List ℕ) → length part ≡ length more → take (length more) more ++ drop (length more) part ≡ more
-  copied-all part e = ap₂ _++_ (take-length more) (drop-of-length-le part {i = length more} (omega arith)) ∙ append-nil more
-
-  part-long : length (take (length more) (drop (length held) bytes)) ≡ length more
-  part-long = rw behind (length-take-le (length more) (zeros (128 - length held)) (rw length-replicate (omega arith)))
-
   grown : (k : ℕ) (w : List ℕ) → k ≡ length more → w ≡ take (length more) more ++ drop (length more) (take k (drop (length held) bytes))
       → record { bytes = putMid (length held) k bytes w; count = length held + length more } ≡ textOf (held ++ more)
   unfolding textOf
   grown k w ek ew =
-      let front : take (length held) bytes ≡ held = take-at held (zeros (128 - length held)) (length held) refl in
-      let middle : w ≡ more = ew ∙ rw ek (copied-all (take (length more) (drop (length held) bytes)) part-long) in
-      let rest : drop k (drop (length held) bytes) ≡ zeros (128 - length held - length more) = rw (ek, behind) (drop-zeros (length more) (128 - length held)) in
-      let left : 128 - length held - length more ≡ 128 - (length held + length more) = omega arith in
-      rw (front, middle, rest, left, length-append held more, append-assoc)
+      let put = put-part bytes more (length held) (rw (length-text held (omega arith)) short) k w ek ew in
+      let left : 128 - length held ≡ length more + (128 - (length held + length more)) = omega arith in
+      let rest : drop (length held + length more) bytes ≡ zeros (128 - (length held + length more))
+      = drop-append-add held (zeros (128 - length held)) (length more) ∙ rw left (drop-zeros (length more) _) in
+      rw (put, take-append-seam held (zeros (128 - length held)), rest, length-append held more)
 
 module _ (more : List ℕ) (text : Text) (room : Room (length more) text) where
   -- what it says of the fields

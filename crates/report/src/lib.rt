@@ -41,11 +41,11 @@ fn trip(mode: u8, frame: &[u8]) -> ReceivedA
 {
     let mut i = levels();
     let mut q = levels();
-    if let Sent::Refused(refusal) = payload_a::send_a(mode, frame, &mut i, &mut q) {
+    if let Sent::Refused(refusal) = sender_a::send_a(mode, frame, &mut i, &mut q) {
         return ReceivedA::Refused(refusal);
     }
     let mut area = [0u8; 94];
-    payload_a::receive_a(mode, &i, &q, &mut area)
+    receiver_a::receive_a(mode, &i, &q, &mut area)
 }
 
 // What the bench program writes for a frame.

@@ -1,4 +1,4 @@
-// Document 01's number, place and counts for each answer of payload.
+// Document 01's number, place and counts for each answer of the payloads' jobs.
 ghost use mathlib.Core.Path.{_≡_};
 ghost use Rattle.payload.specs.Answers.{sentNumber, sentPlace};
 ghost use Rattle.payload_a.specs.AnswersA.{numberA, placeA, mendedA, protectedA};

@@ -45,12 +45,12 @@ pub(crate) fn serve_receive(i: &mut [i16], q: &mut [i16], area: &mut [u8]) -> bo
 
 // The call of job 3, and its response.
 fn send(mode: u8, frame: &[u8], i: &mut [i16], q: &mut [i16]) -> bool {
-    output::write_sent(payload_a::send_a(mode, frame, i, q), i, q)
+    output::write_sent(sender_a::send_a(mode, frame, i, q), i, q)
 }
 
 // The call of job 4, and its response.
 fn receive(mode: u8, i: &[i16], q: &[i16], area: &mut [u8]) -> bool {
-    write_received(payload_a::receive_a(mode, i, q, area)) && output::write_list(area)
+    write_received(receiver_a::receive_a(mode, i, q, area)) && output::write_list(area)
 }
 
 // How the response to job 4 begins.

@@ -82,12 +82,13 @@ pub(crate) fn serve_receive(
 
 // The call of job 5, and its response.
 fn send(mode: u8, frame: &[u8], scheme: &[u8], i: &mut [i16], q: &mut [i16]) -> bool {
-    output::write_sent(payload_b::send_b(mode, frame, scheme, i, q), i, q)
+    output::write_sent(sender_b::send_b(mode, frame, scheme, i, q), i, q)
 }
 
 // The call of job 6, and its response.
 fn receive(mode: u8, size: usize, scheme: &[u8], i: &[i16], q: &[i16], area: &mut [u8]) -> bool {
-    write_received(payload_b::receive_b(mode, size, scheme, i, q, area)) && output::write_list(area)
+    write_received(receiver_b::receive_b(mode, size, scheme, i, q, area))
+        && output::write_list(area)
 }
 
 // How the response to job 6 begins.

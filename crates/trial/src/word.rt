@@ -29,8 +29,8 @@ pub(crate) fn serve(job: u8, word: &mut [u8], out: &mut [u8]) -> bool {
 // The call, and its response.
 fn call(job: u8, code: u8, word: &[u8], out: &mut [u8]) -> bool {
     match job {
-        1 => write_encoded(bch::encode(code, word, out), out),
-        2 => write_decoded(bch::decode(code, word, out), out),
+        1 => write_encoded(encoder::encode(code, word, out), out),
+        2 => write_decoded(decoder::decode(code, word, out), out),
         _ => false,
     }
 }

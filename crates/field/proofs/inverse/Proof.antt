@@ -11,6 +11,12 @@ use borrow.Author.Needs.{needs}
 use Rattle.field.proofs.inverse.Statement.{statement}
 use Rattle.field.proofs.inverse.Tie as tie
 
+logged : (c : tie.After-logarithm) → c .logarithm .result ≡ log (element (c .before .before .before .args .x))
+unfolding log
+logged c =
+    c .logarithm .ensures .0
+    ∙ ap (λ (l : List ℕ). getD l (element (c .before .before .before .args .x)) 0) (c .before .before .log-table .ensures)
+
 log-table-requires : tie.Need-log-table-requires
 log-table-requires c κs = search needs
 
@@ -18,12 +24,7 @@ logarithm-requires : tie.Need-logarithm-requires
 logarithm-requires c κs = search needs
 
 returns : tie.Need-returns
-unfolding log
-returns c =
-    let x = c .before .before .before .before .args .x in
-    let i : c .before .logarithm .result ≡ log (element x)
-    = c .before .logarithm .ensures .0 ∙ ap (λ (l : List ℕ). getD l (element x) 0) (c .before .before .before .log-table .ensures) in
-    sym (inverse-none x (rw i at (c .if1 .taken)))
+returns c = sym (inverse-none (c .before .before .before .before .args .x) (rw (logged (c .before)) at (c .if1 .taken)))
 
 power-table-requires : tie.Need-power-table-requires
 power-table-requires c κs = search needs
@@ -32,15 +33,11 @@ power-at-requires : tie.Need-power-at-requires
 power-at-requires c κs = search needs
 
 returns-2 : tie.Need-returns-2
-unfolding log
 returns-2 c =
-    let x = c .before .before .before .before .before .before .before .args .x in
-    let i : c .before .before .before .before .logarithm .result ≡ log (element x)
-    = c .before .before .before .before .logarithm .ensures .0
-    ∙ ap (λ (l : List ℕ). getD l (element x) 0) (c .before .before .before .before .before .before .log-table .ensures) in
+    let i = logged (c .before .before .before .before) in
     c .power-at .ensures
     ∙ ap₂ (λ (l : List ℕ) (j : ℕ). getD l (min (511 - j) 1021) 0) (c .before .before .power-table .ensures) i
-    ∙ sym (inverse-some x (rw i at (c .before .before .before .if1 .left)))
+    ∙ sym (inverse-some (c .before .before .before .before .before .before .before .args .x) (rw i at (c .before .before .before .if1 .left)))
 
 pub inverse-spec : {M : Type 1} → statement M
 inverse-spec =

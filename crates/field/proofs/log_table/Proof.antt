@@ -8,7 +8,7 @@ use Rattle.field.proofs.log_table.Tie as tie
 
 returns : tie.Need-returns
 unfolding logTable listed placeFrom powersFrom shifted
-returns c = refl
+returns c = refl {a = logTable}
 
 pub log-table-spec : {M : Type 1} → statement M
 log-table-spec = tie.close (tie.spec returns)

@@ -8,7 +8,7 @@ use Rattle.field.proofs.power_table.Tie as tie
 
 returns : tie.Need-returns
 unfolding powerTable powersFrom shifted
-returns c = refl
+returns c = refl {a = powerTable}
 
 pub power-table-spec : {M : Type 1} → statement M
 power-table-spec = tie.close (tie.spec returns)

@@ -1,10 +1,12 @@
 -- `bch::register::four` meets its contract: the four bits are the binary digits of the sum.
 -- Assumes nothing.
+use mathlib.Core.Path.{sym, _∙_}
 use Prim.Native.Nat.{_+_}
 use native.Mathlib.Omega.{arith}
 use lib.ListN.{getD}
+use Rattle.bch.specs.Words.{lowest}
 use borrow.Author.Needs.{needs}
-use Rattle.bch.proofs.Digits.{bits-at}
+use Rattle.bch.proofs.Digits.{bits-at, length-lowest, lowest-at, lowest-bits}
 use Rattle.bch.proofs.Nibbles.{four-digits, four-from}
 use Rattle.bch.proofs.register.four.Statement.{statement}
 use Rattle.bch.proofs.register.four.Tie as tie
@@ -64,15 +66,16 @@ returns : tie.Need-returns
 returns c =
     let s = c .before .before .before .before .before .before .before .before .before in
     let w = s .args .word .now in
+    let l = lowest w in
     let i = s .args .i in
-    let at = bits-at w (s .pre .0) in
-    let e0 = c .before .before .before .before .before .before .wide .ensures .0 in
-    let e1 = c .before .before .before .before .wide2 .ensures .0 in
-    let e2 = c .before .before .wide3 .ensures .0 in
-    let e3 = c .wide4 .ensures .0 in (
-      omega (arith, at i, at (i + 1), at (i + 2), at (i + 3)),
-      rw (e0, e1, e2, e3, four-digits (getD w i 0) (getD w (i + 1) 0) (getD w (i + 2) 0) (getD w (i + 3) 0) (at i) (at (i + 1)) (at (i + 2)) (at (i + 3)))
-          (four-from w i (s .pre .1)),
+    let at = bits-at l (lowest-bits w) in
+    let e0 = c .before .before .before .before .before .before .wide .ensures .0 ∙ sym (lowest-at w i) in
+    let e1 = c .before .before .before .before .wide2 .ensures .0 ∙ sym (lowest-at w (i + 1)) in
+    let e2 = c .before .before .wide3 .ensures .0 ∙ sym (lowest-at w (i + 2)) in
+    let e3 = c .wide4 .ensures .0 ∙ sym (lowest-at w (i + 3)) in (
+      omega arith,
+      rw (e0, e1, e2, e3, four-digits (getD l i 0) (getD l (i + 1) 0) (getD l (i + 2) 0) (getD l (i + 3) 0) (at i) (at (i + 1)) (at (i + 2)) (at (i + 3)))
+          (four-from l i (rw (length-lowest w) (s .pre))),
     )
 
 pub four-spec : {M : Type 1} → statement M

@@ -1,26 +1,28 @@
 -- `bch::register::packed` meets its contract: the register holds the bits from i on.
 -- Assumes nothing.
-use mathlib.Core.Path.{_≡_, sym, ap, _∙_}
+use mathlib.Core.Path.{_≡_, sym, ap₂, _∙_}
 use mathlib.Core.List.{List, _∷_, _++_}
-use Prim.Native.Nat.{ℕ, suc, _+_, _-_, _*_, _/_, _^_, _≤_, _<_}
+use Prim.Native.Nat.{ℕ, suc, _+_, _-_, _*_, _/_, _%_, _^_, _≤_, _<_}
 use native.Mathlib.Omega.{arith}
 use lib.ListN.{length, getD, drop}
 use lib.Seq.{drop-cons, drop-length}
-use Rattle.bch.specs.Words.{digits}
+use Rattle.bch.specs.Words.{lowest, digits}
 use Rattle.bch.specs.Registers.{number, packed}
-use Rattle.bch.proofs.Digits.{bits-at}
+use Rattle.bch.proofs.Digits.{length-lowest, lowest-at}
 use Rattle.bch.proofs.Tops.{packed-before}
 use borrow.Author.Needs.{needs}
 use Rattle.bch.proofs.register.packed.Statement.{statement}
 use Rattle.bch.proofs.register.packed.Tie as tie
 
 -- a turn: y is the register x with the bit before i put on top
-turn : (w : List ℕ) (i x y : ℕ) → 0 < i → i ≤ length w → y ≡ getD w (i - 1) 0 * 2 ^ 191 + x / 2 → x ≡ packed (drop i w) → y ≡ packed (drop (i - 1) w)
+turn : (w : List ℕ) (i x y : ℕ) → 0 < i → i ≤ length w → y ≡ getD w (i - 1) 0 % 2 * 2 ^ 191 + x / 2 → x ≡ packed (drop i (lowest w))
+    → y ≡ packed (drop (i - 1) (lowest w))
 unfolding packed
 turn w i x y pos h ey ex =
+    let l = lowest w in
     let s : suc (i - 1) ≡ i = omega arith in
-    let d : drop (i - 1) w ≡ getD w (i - 1) 0 ∷ drop i w
-    = drop-cons w (i - 1) 0 (omega arith) ∙ ap (λ (n : ℕ). getD w (i - 1) 0 ∷ drop n w) s in
+    let d : drop (i - 1) l ≡ getD w (i - 1) 0 % 2 ∷ drop i l
+    = drop-cons l (i - 1) 0 (omega (arith, length-lowest w)) ∙ ap₂ (λ (b n : ℕ). b ∷ drop n l) (lowest-at w (i - 1)) s in
     rw (ey, ex, d)
 
 -- and with the four bits before i, the digits of b
@@ -32,7 +34,7 @@ turn4 w i b x y pos hb d ey ex =
 
 -- the register x holds the word from i on
 abbrev Holds : List ℕ → ℕ → ℕ → Type 0
-Holds w x i = (i ≤ length w) × (x ≡ packed (drop i w))
+Holds w x i = (i ≤ length w) × (x ≡ packed (drop i (lowest w)))
 
 abbrev Inv-loop : tie.InvT-loop
 Inv-loop word r₀ i₀ r i = Holds word (number r) i
@@ -48,10 +50,12 @@ abbrev μ-loop2 : tie.MeasureT-loop2
 
 loop-holds : tie.Need-loop-holds Inv-loop μ-loop Inv-loop2 μ-loop2
 unfolding packed
-loop-holds c = (omega arith, rw (drop-length (c .before .args .word .now)))
+loop-holds c =
+    let w = c .before .args .word .now in
+    (omega arith, rw (sym (length-lowest w), drop-length (lowest w)))
 
 four-requires : tie.Need-four-requires Inv-loop μ-loop Inv-loop2 μ-loop2
-four-requires c κs = (c .before .before .before .pre, omega arith)
+four-requires c κs = search needs
 
 down4-requires : tie.Need-down4-requires Inv-loop μ-loop Inv-loop2 μ-loop2
 down4-requires c κs = search needs
@@ -64,7 +68,7 @@ loop-again c =
     let l = c .before .before .before .loop in
     let w = c .before .before .before .before .before .args .word .now in
     let b = c .before .four .ensures in
-    (omega arith, turn4 w (l .i) _ (number (l .r)) _ (omega arith) (b .0) (b .1) (c .down4 .ensures) (l .inv .1))
+    (omega arith, turn4 (lowest w) (l .i) _ (number (l .r)) _ (omega arith) (b .0) (b .1) (c .down4 .ensures) (l .inv .1))
 
 loop2-holds : tie.Need-loop2-holds Inv-loop μ-loop Inv-loop2 μ-loop2
 loop2-holds c = c .before .loop .inv
@@ -72,25 +76,24 @@ loop2-holds c = c .before .loop .inv
 sub-i : tie.Need-sub-i Inv-loop μ-loop Inv-loop2 μ-loop2
 sub-i c = search needs
 
-shared-slice-read-down : tie.Need-shared-slice-read-down Inv-loop μ-loop Inv-loop2 μ-loop2
-shared-slice-read-down c = search needs
+shared-slice-read-wide : tie.Need-shared-slice-read-wide Inv-loop μ-loop Inv-loop2 μ-loop2
+shared-slice-read-wide c = search needs
 
-cast-down : tie.Need-cast-down Inv-loop μ-loop Inv-loop2 μ-loop2
-cast-down c = omega (arith, c .shared-slice-known2 .given (c .before .before .loop2 .i - 1))
+wide-requires : tie.Need-wide-requires Inv-loop μ-loop Inv-loop2 μ-loop2
+wide-requires c κs = search needs
 
 down-requires : tie.Need-down-requires Inv-loop μ-loop Inv-loop2 μ-loop2
-down-requires c κs =
-    let s = c .before .before .before .before .before .before in
-    bits-at (s .args .word .now) (s .pre) (c .before .before .loop2 .i - 1)
+down-requires c κs = search needs
 
 loop2-less : tie.Need-loop2-less Inv-loop μ-loop Inv-loop2 μ-loop2
 loop2-less c = search needs
 
 loop2-again : tie.Need-loop2-again Inv-loop μ-loop Inv-loop2 μ-loop2
 loop2-again c =
-    let l = c .before .before .before .loop2 in
-    let w = c .before .before .before .before .before .before .before .args .word .now in
-    (omega arith, turn w (l .i) (number (l .r)) _ (omega arith) (omega arith) (c .down .ensures) (l .inv .1))
+    let l = c .before .before .before .before .loop2 in
+    let w = c .before .before .before .before .before .before .before .before .args .word .now in
+    let b = c .before .wide .ensures .0 in
+    (omega arith, turn w (l .i) (number (l .r)) _ (omega arith) (omega arith) (rw b at (c .down .ensures)) (l .inv .1))
 
 returns : tie.Need-returns Inv-loop μ-loop Inv-loop2 μ-loop2
 returns c =
@@ -113,8 +116,8 @@ packed-spec =
     loop-again
     loop2-holds
     sub-i
-    shared-slice-read-down
-    cast-down
+    shared-slice-read-wide
+    wide-requires
     down-requires
     loop2-less
     loop2-again

@@ -2,25 +2,25 @@
 -- Assumes nothing.
 use mathlib.Core.Path.{_≡_, refl, sym, ap, _∙_}
 use mathlib.Core.List.{List, _++_}
-use Prim.Native.Nat.{ℕ, _+_, _-_, _≤_, _<_}
+use Prim.Native.Nat.{ℕ, _+_, _-_, _%_, _≤_, _<_}
 use native.Mathlib.Omega.{arith}
 use native.Mathlib.Numerals.{add-one}
 use lib.ListN.{length, getD, drop, drop-of-length-le}
 use lib.Seq.{drop-cons}
-use Rattle.bch.specs.Words.{digits}
+use Rattle.bch.specs.Words.{lowest, digits}
 use Rattle.bch.specs.Registers.{number, whole}
 use Rattle.bch.specs.Remainders.{step, remainder, remainderFrom}
-use Rattle.bch.proofs.Digits.{bits-at}
+use Rattle.bch.proofs.Digits.{length-lowest, lowest-at}
 use Rattle.bch.proofs.Remainders.{from-append}
 use borrow.Author.Needs.{needs}
 use Rattle.bch.proofs.register.remainder.Statement.{statement}
 use Rattle.bch.proofs.register.remainder.Tie as tie
 
 -- a turn: y is the register after the bit at i
-turn : (g x y : ℕ) (w : List ℕ) (i : ℕ) → i < length w → y ≡ step 192 g x (getD w i 0)
-    → remainderFrom 192 g y (drop (i + 1) w) ≡ remainderFrom 192 g x (drop i w)
+turn : (g x y : ℕ) (w : List ℕ) (i : ℕ) → i < length w → y ≡ step 192 g x (getD w i 0 % 2)
+    → remainderFrom 192 g y (drop (i + 1) (lowest w)) ≡ remainderFrom 192 g x (drop i (lowest w))
 unfolding remainderFrom
-turn g x y w i h e = rw (e, add-one, drop-cons w i 0)
+turn g x y w i h e = rw (e ∙ ap (step 192 g x) (sym (lowest-at w i)), add-one, drop-cons (lowest w) i 0 (rw (length-lowest w) h))
 
 -- and after the four bits from i on, the digits of b
 turn4 : (g x y b : ℕ) (w : List ℕ) (i : ℕ) → drop i w ≡ digits 4 b ++ drop (i + 4) w → y ≡ remainderFrom 192 g x (digits 4 b)
@@ -33,7 +33,7 @@ done g x w i h = rw (drop-of-length-le w h)
 
 -- the register x has taken in the word up to i
 abbrev Taken : ℕ → List ℕ → ℕ → ℕ → Type 0
-Taken g w x i = (i ≤ length w) × (remainderFrom 192 g x (drop i w) ≡ remainder 192 g w)
+Taken g w x i = (i ≤ length w) × (remainderFrom 192 g x (drop i (lowest w)) ≡ remainder 192 g (lowest w))
 
 abbrev Inv-loop : tie.InvT-loop
 Inv-loop g word table r₀ i₀ r i = Taken (whole g) word (number r) i
@@ -85,7 +85,7 @@ loop-again c =
     let s = f .before .before .args in
     let slot = c .before .before .slot .ensures in (
       omega arith,
-      turn4 (whole (s .g)) (number (l .r)) _ _ (s .word .now) (l .i) (c .before .before .before .four .ensures .1)
+      turn4 (whole (s .g)) (number (l .r)) _ _ (lowest (s .word .now)) (l .i) (c .before .before .before .four .ensures .1)
           (c .step4 .ensures _ _ (f .fours .ensures _ _ (slot .1) ∙ ap (λ (k : ℕ). remainder 192 (whole (s .g)) (digits 4 k)) (slot .0))) ∙ l .inv .1,
     )
 
@@ -96,9 +96,7 @@ shared-slice-read-step : tie.Need-shared-slice-read-step Inv-loop μ-loop Inv-lo
 shared-slice-read-step c = search needs
 
 step-requires : tie.Need-step-requires Inv-loop μ-loop Inv-loop2 μ-loop2
-step-requires c κs =
-    let s = c .before .before .before .before .before .before .before in
-    bits-at (s .args .word .now) (s .pre) (c .before .before .loop2 .i)
+step-requires c κs = search needs
 
 add-i-2 : tie.Need-add-i-2 Inv-loop μ-loop Inv-loop2 μ-loop2
 add-i-2 c = search needs
@@ -116,7 +114,7 @@ returns : tie.Need-returns Inv-loop μ-loop Inv-loop2 μ-loop2
 returns c =
     let l = c .before .loop2 in
     let s = c .before .before .before .before .before .before .args in
-    done (whole (s .g)) (number (l .r)) (s .word .now) (l .i) (omega arith) ∙ l .inv .1
+    done (whole (s .g)) (number (l .r)) (lowest (s .word .now)) (l .i) (omega (arith, length-lowest (s .word .now))) ∙ l .inv .1
 
 pub remainder-spec : {M : Type 1} → statement M
 remainder-spec =

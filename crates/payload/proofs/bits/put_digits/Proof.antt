@@ -7,7 +7,7 @@ use native.Mathlib.Omega.{arith}
 use lib.ListN.{length, set, drop, length-set}
 use lib.Seq.{drop-length, drop-cons, drop-set-lt, getD-set-same, lt-length-set}
 use Rattle.bch.specs.Words.{digits}
-use Rattle.payload.proofs.Numbers.{digits-last}
+use Rattle.bch.proofs.Digits.{digits-last}
 use borrow.Author.Needs.{needs}
 use Rattle.payload.proofs.bits.put_digits.Statement.{statement}
 use Rattle.payload.proofs.bits.put_digits.Tie as tie

@@ -2,31 +2,31 @@
 -- Assumes nothing.
 use mathlib.Core.Path.{_≡_, refl, _∙_}
 use mathlib.Core.List.{List}
-use Prim.Native.Nat.{ℕ, _+_, _-_, _≤_, _<_}
+use Prim.Native.Nat.{ℕ, _+_, _-_, _%_, _≤_, _<_}
 use native.Mathlib.Omega.{arith}
 use native.Mathlib.Numerals.{add-one}
 use lib.ListN.{length, getD, drop, drop-of-length-le}
 use lib.Seq.{drop-cons}
 use Rattle.bch.specs.Remainders.{step, remainder, remainderFrom}
-use Rattle.bch.proofs.Digits.{bits-at}
 use Rattle.payload_a.specs.Check.{checkPolynomial, checkOf}
+use Rattle.bch.specs.Words.{lowest}
 use borrow.Author.Needs.{needs}
 use Rattle.payload_a.proofs.check.check_of.Statement.{statement}
 use Rattle.payload_a.proofs.check.check_of.Tie as tie
 
 -- a turn: y is the register after the bit at i
-turn : (x y : ℕ) (m : List ℕ) (i : ℕ) → i < length m → y ≡ step 32 checkPolynomial x (getD m i 0)
-    → remainderFrom 32 checkPolynomial y (drop (i + 1) m) ≡ remainderFrom 32 checkPolynomial x (drop i m)
+turn : (x y : ℕ) (m : List ℕ) (i : ℕ) → i < length m → y ≡ step 32 checkPolynomial x (getD m i 0 % 2)
+    → remainderFrom 32 checkPolynomial y (lowest (drop (i + 1) m)) ≡ remainderFrom 32 checkPolynomial x (lowest (drop i m))
 unfolding remainderFrom
 turn x y m i h e = rw (e, add-one, drop-cons m i 0)
 
-done : (x : ℕ) (m : List ℕ) (i : ℕ) → length m ≤ i → x ≡ remainderFrom 32 checkPolynomial x (drop i m)
+done : (x : ℕ) (m : List ℕ) (i : ℕ) → length m ≤ i → x ≡ remainderFrom 32 checkPolynomial x (lowest (drop i m))
 unfolding remainderFrom
 done x m i h = rw (drop-of-length-le m h)
 
 abbrev Inv-loop : tie.InvT-loop
 Inv-loop message register₀ i₀ register i =
-    (i ≤ length message) × (remainderFrom 32 checkPolynomial register (drop i message) ≡ checkOf message)
+    (i ≤ length message) × (remainderFrom 32 checkPolynomial register (lowest (drop i message)) ≡ checkOf (lowest message))
 
 abbrev μ-loop : tie.MeasureT-loop
 μ-loop message register₀ i₀ register i = length message - i
@@ -39,9 +39,7 @@ shared-slice-read-take-in : tie.Need-shared-slice-read-take-in Inv-loop μ-loop
 shared-slice-read-take-in c = search needs
 
 take-in-requires : tie.Need-take-in-requires Inv-loop μ-loop
-take-in-requires c κs =
-    let s = c .before .before .before .before in
-    bits-at (s .args .message .now) (s .pre) (c .before .before .loop .i)
+take-in-requires c κs = search needs
 
 add-i : tie.Need-add-i Inv-loop μ-loop
 add-i c = search needs

@@ -4,12 +4,12 @@ use mathlib.Core.Path.{_≡_, sym, ap, _∙_}
 use mathlib.Core.List.{List}
 use Prim.Native.Nat.{ℕ, _%_, _≤_, _<_, min}
 use native.Mathlib.Omega.{arith}
-use native.Mathlib.Nat.{min-le-left}
+use native.Mathlib.Nat.{min-le-left, min-eq-left}
 use lib.ListN.{length}
 use Rattle.payload_b.specs.CodedB.{blockBytes, symbolsFor}
 use Rattle.payload.specs.Checked.{fails}
 use Rattle.payload_b.specs.PromiseB.{badEntry}
-use Rattle.payload_b.specs.HeldB.{Scheme}
+use Rattle.payload_b.specs.PlanB.{Scheme}
 use Rattle.payload_b.proofs.Schemes.{bad-most}
 use Rattle.payload_b.proofs.Blocks.{block-bytes-pos}
 use Rattle.payload_b.proofs.Plans.{mode-unknown, none-sent, not-whole, other-length, some-bad, too-many}
@@ -91,13 +91,16 @@ returns-7 c =
     let a = c .before .before .before .before .before .before .before .before .before .before .args in
     let b = c .before .before .before .before .before .before .block-bytes in
     let s = c .before .symbols in
-    record {
-      known = omega arith;
-      some = omega arith;
-      whole = whole-by (a .size) (b .result) (blockBytes (a .mode)) (b .ensures) (c .before .before .before .before .before .if3 .left);
-      entries = scheme-by (a .scheme .now) (omega arith) (omega arith);
-      few = few-by (s .result) (symbolsFor (a .mode) (a .size) (a .scheme .now)) (s .ensures) (omega arith);
-    }
+    let few = few-by (s .result) (symbolsFor (a .mode) (a .size) (a .scheme .now)) (s .ensures) (omega arith) in (
+      record {
+        known = omega arith;
+        some = omega arith;
+        whole = whole-by (a .size) (b .result) (blockBytes (a .mode)) (b .ensures) (c .before .before .before .before .before .if3 .left);
+        entries = scheme-by (a .scheme .now) (omega arith) (omega arith);
+        few = few;
+      },
+      s .ensures ∙ min-eq-left (omega (arith, few)),
+    )
 
 pub judged-spec : {M : Type 1} → statement M
 judged-spec =

@@ -6,8 +6,8 @@ use Prim.Native.Nat.{ℕ, _+_, _-_, _*_, _/_, _≤_, _<_}
 use native.Mathlib.Omega.{arith}
 use native.Mathlib.Nat.{min-eq-left, min-eq-right, le-div-iff-mul-le, mul-le-mul}
 use Rattle.payload_b.specs.CodedB.{blockBytes, blockBits, sumOf, symbolsFor}
-use Rattle.payload_b.specs.HeldB.{Scheme}
-use Rattle.payload_b.proofs.Schemes.{sum-least, sum-most}
+use Rattle.payload_b.specs.PlanB.{Scheme}
+use Rattle.payload_b.proofs.Schemes.{sum-whole, sum-least, sum-most}
 use Rattle.payload_b.proofs.Blocks.{block-bytes-pos, block-bits-least, block-bits-few}
 use borrow.Author.Needs.{needs}
 use Rattle.payload_b.proofs.plan.symbols.Statement.{statement}
@@ -56,33 +56,39 @@ mul-m c =
     omega (arith, bits-fit (s .args .mode) (c .block-bits .result) blocks (c .block-bits .ensures) (omega arith))
 
 sub-m : tie.Need-sub-m
-sub-m c = omega (arith, sum-least (c .before .before .before .before .before .pre))
+sub-m c =
+    let good = c .before .before .before .before .before .pre in
+    omega (arith, sum-whole good, sum-least good)
 
 add-m : tie.Need-add-m
 add-m c =
     let s = c .before .before .before .before .before in
     let blocks = s .args .size / c .before .before .before .block-bytes .result in
-    omega (arith, bits-fit (s .args .mode) (c .block-bits .result) blocks (c .block-bits .ensures) (omega arith), sum-most (s .pre))
+    omega (arith, bits-fit (s .args .mode) (c .block-bits .result) blocks (c .block-bits .ensures) (omega arith), sum-whole (s .pre), sum-most (s .pre))
 
 div-m : tie.Need-div-m
-div-m c = omega (arith, sum-least (c .before .before .before .before .before .pre))
+div-m c =
+    let good = c .before .before .before .before .before .pre in
+    omega (arith, sum-whole good, sum-least good)
 
 returns-2 : tie.Need-returns-2
 returns-2 c =
-    let a = c .before .before .before .before .before .before .args in
+    let s = c .before .before .before .before .before .before in
+    let a = s .args in
     let bytes = c .before .before .before .before .block-bytes in
     let bits = c .before .block-bits in
     let sum = c .before .before .sum in
-    let e = counted (a .mode) (a .size) (bytes .result) (bits .result) (sum .result) (a .scheme .now) (bytes .ensures) (bits .ensures) (sum .ensures) in
+    let e = counted (a .mode) (a .size) (bytes .result) (bits .result) (sum .result) (a .scheme .now) (bytes .ensures) (bits .ensures) (sum .ensures ∙ sum-whole (s .pre)) in
     e ∙ sym (min-eq-left (omega (arith, e)))
 
 returns-3 : tie.Need-returns-3
 returns-3 c =
-    let a = c .before .before .before .before .before .before .args in
+    let s = c .before .before .before .before .before .before in
+    let a = s .args in
     let bytes = c .before .before .before .before .block-bytes in
     let bits = c .before .block-bits in
     let sum = c .before .before .sum in
-    let e = counted (a .mode) (a .size) (bytes .result) (bits .result) (sum .result) (a .scheme .now) (bytes .ensures) (bits .ensures) (sum .ensures) in
+    let e = counted (a .mode) (a .size) (bytes .result) (bits .result) (sum .result) (a .scheme .now) (bytes .ensures) (bits .ensures) (sum .ensures ∙ sum-whole (s .pre)) in
     sym (min-eq-right (omega (arith, e)))
 
 pub symbols-spec : {M : Type 1} → statement M

@@ -8,7 +8,7 @@ use Rattle.points.proofs.constellation.cells.Tie as tie
 
 returns : tie.Need-returns
 unfolding ourCells quarterCells words word quarterOf points columns tables
-returns c = refl
+returns c = refl {a = ourCells}
 
 pub cells-spec : {M : Type 1} → statement M
 cells-spec = tie.close (tie.spec returns)

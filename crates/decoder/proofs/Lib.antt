@@ -1,0 +1,11 @@
+pub mod Lents
+pub mod Summands
+pub mod Syndromic
+pub mod Leftovers
+pub mod Flips
+pub mod Completeness
+pub mod Shifts
+pub mod Mixes
+pub mod Coefficients
+pub mod Recurrences
+pub mod Attempts

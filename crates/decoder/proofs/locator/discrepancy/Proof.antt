@@ -1,0 +1,69 @@
+-- `decoder::locator::discrepancy` meets its contract: d is the sum of the terms before j.
+-- Assumes nothing.
+use mathlib.Core.Path.{_≡_}
+use Prim.Native.Nat.{suc, _≤_, _+_, _-_}
+use native.Mathlib.Numerals.{add-one}
+use native.Mathlib.Omega.{arith}
+use Rattle.decoder.proofs.Coefficients.{Summed, summed-none, summed-more, summed-all}
+use borrow.Author.Needs.{needs}
+use Rattle.decoder.proofs.locator.discrepancy.Statement.{statement}
+use Rattle.decoder.proofs.locator.discrepancy.Tie as tie
+
+abbrev Inv-loop : tie.InvT-loop
+Inv-loop logs powers s locator r d₀ j₀ d j = (j ≤ r + 1) × Summed locator s r j d
+
+abbrev μ-loop : tie.MeasureT-loop
+μ-loop logs powers s locator r d₀ j₀ d j = r + 1 - j
+
+loop-holds : tie.Need-loop-holds Inv-loop μ-loop
+loop-holds c = (search needs, summed-none)
+
+mul-product-from : tie.Need-mul-product-from Inv-loop μ-loop
+mul-product-from c = search needs
+
+element-copy-out-product-from : tie.Need-element-copy-out-product-from Inv-loop μ-loop
+element-copy-out-product-from c = search needs
+
+mul-product-from-2 : tie.Need-mul-product-from-2 Inv-loop μ-loop
+mul-product-from-2 c = search needs
+
+element-copy-out-product-from-2 : tie.Need-element-copy-out-product-from-2 Inv-loop μ-loop
+element-copy-out-product-from-2 c = search needs
+
+product-from-requires : tie.Need-product-from-requires Inv-loop μ-loop
+product-from-requires c κs = search needs
+
+add-j : tie.Need-add-j Inv-loop μ-loop
+add-j c = search needs
+
+loop-less : tie.Need-loop-less Inv-loop μ-loop
+loop-less c = search needs
+
+loop-again : tie.Need-loop-again Inv-loop μ-loop
+loop-again c =
+    let l = c .before .before .before .before .loop in
+    let start = c .before .before .before .before .before in
+    (omega arith, (rw (add-one, c .product-from .ensures) (summed-more (start .pre .0) (l .inv .1))))
+
+returns : tie.Need-returns Inv-loop μ-loop
+returns c =
+    let l = c .before .loop in
+    let e : l .j ≡ suc (c .before .before .args .r) = omega arith in
+    (summed-all (rw e at (l .inv .1)), l .inv .1 .small)
+
+pub discrepancy-spec : {M : Type 1} → statement M
+discrepancy-spec =
+    tie.close
+    (tie.spec
+    Inv-loop
+    μ-loop
+    loop-holds
+    mul-product-from
+    element-copy-out-product-from
+    mul-product-from-2
+    element-copy-out-product-from-2
+    product-from-requires
+    add-j
+    loop-less
+    loop-again
+    returns)

@@ -1,0 +1,68 @@
+-- `decoder::locator::step` meets its contract: each way out is a step of the algorithm.
+-- Assumes nothing.
+use Rattle.decoder.proofs.Recurrences.{after-none, after-keep, after-grow}
+use borrow.Author.Needs.{needs}
+use Rattle.decoder.proofs.locator.step.Statement.{statement}
+use Rattle.decoder.proofs.locator.step.Tie as tie
+
+discrepancy-requires : tie.Need-discrepancy-requires
+discrepancy-requires c κs = search needs
+
+moved-requires : tie.Need-moved-requires
+moved-requires c κs = search needs
+
+returns : tie.Need-returns
+returns c =
+    let start = c .before .before .before .before .before .before .before in
+    let d = c .before .before .before .discrepancy in
+    rw (c .moved .ensures) (after-none (start .pre .2) (start .pre .1) (d .result) (d .ensures .0) (c .before .before .if1 .taken))
+
+mixed-requires : tie.Need-mixed-requires
+mixed-requires c κs = search needs
+
+add-if2 : tie.Need-add-if2
+add-if2 c = search needs
+
+moved-requires-2 : tie.Need-moved-requires-2
+moved-requires-2 c κs = search needs
+
+returns-2 : tie.Need-returns-2
+returns-2 c =
+    let start = c .before .before .before .before .before .before .before .before .before .before .before in
+    let d = c .before .before .before .before .before .before .before .discrepancy in
+    rw (c .moved2 .ensures)
+    (after-keep (start .pre .2) (start .pre .1) (d .result) (d .ensures .0) (c .before .before .before .mixed .ensures)
+    (c .before .before .if2 .taken))
+
+moved-requires-3 : tie.Need-moved-requires-3
+moved-requires-3 c κs = search needs
+
+add-t19 : tie.Need-add-t19
+add-t19 c = search needs
+
+sub-t24 : tie.Need-sub-t24
+sub-t24 c = search needs
+
+returns-3 : tie.Need-returns-3
+returns-3 c =
+    let start = c .before .before .before .before .before .before .before .before .before .before .before in
+    let d = c .before .before .before .before .before .before .before .discrepancy in
+    rw (c .moved3 .ensures)
+    (after-grow (start .pre .2) (start .pre .1) (d .result) (d .ensures .0) (c .before .before .before .mixed .ensures)
+    (c .before .before .if2 .left) (d .ensures .1) (c .before .before .before .before .before .before .if1 .left))
+
+pub step-spec : {M : Type 1} → statement M
+step-spec =
+    tie.close
+    (tie.spec
+    discrepancy-requires
+    moved-requires
+    returns
+    mixed-requires
+    add-if2
+    moved-requires-2
+    returns-2
+    moved-requires-3
+    add-t19
+    sub-t24
+    returns-3)

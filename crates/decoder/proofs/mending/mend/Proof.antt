@@ -1,0 +1,60 @@
+-- `decoder::mending::mend` meets its contract: the only candidate is the answer exactly where it is a codeword.
+-- Assumes nothing.
+use mathlib.Core.Path.{refl}
+use mathlib.Core.Logic.{inr}
+use Rattle.decoder.proofs.Attempts.{settled}
+use borrow.Author.Needs.{needs}
+use Rattle.decoder.proofs.mending.mend.Statement.{statement}
+use Rattle.decoder.proofs.mending.mend.Tie as tie
+
+attempt-requires : tie.Need-attempt-requires
+attempt-requires c κs = search needs
+
+enum-told : tie.Need-enum-told
+enum-told c = search needs
+
+enum-known-tried : tie.Need-enum-known-tried
+enum-known-tried c = search needs
+
+settle-requires : tie.Need-settle-requires
+settle-requires c κs =
+    let q = c .before .before .before .before .before .before .before in
+    let s = q .before .before .before .before .before in
+    let found = rw (c .before .before .before .tried .given .1) at (q .attempt .ensures) in
+    record { sound = s .pre .0 .sound; bits = found .bits; long = found .long; room = s .pre .0 .room }
+
+same-length : tie.Need-same-length
+same-length c = search needs
+
+returns : tie.Need-returns
+returns c =
+    let none = rw (c .enum-told .given .1) at (c .before .before .before .before .attempt .ensures) in
+    inr (record { none = none; number = refl; place = refl; count = refl; left = refl })
+
+same-length-2 : tie.Need-same-length-2
+same-length-2 c = search needs
+
+same-length-3 : tie.Need-same-length-3
+same-length-3 c = search needs
+
+returns-2 : tie.Need-returns-2
+returns-2 c =
+    let q = c .before .before .before .before .before .before .before .before .before .before in
+    let s = q .before .before .before .before .before in
+    let settle = c .before .before .settle in
+    settled (rw (c .before .before .before .before .before .before .tried .given .1) at (q .attempt .ensures))
+    (s .args .out .now) (settle .result) (settle .last .1 .1 .1 .0) (settle .ensures)
+
+pub mend-spec : {M : Type 1} → statement M
+mend-spec =
+    tie.close
+    (tie.spec
+    attempt-requires
+    enum-told
+    enum-known-tried
+    settle-requires
+    same-length
+    returns
+    same-length-2
+    same-length-3
+    returns-2)

@@ -1,0 +1,196 @@
+-- `decoder::terms::add` meets its contract: the entries before i have their terms, and at is the exponent of the next, below 511.
+-- Assumes nothing.
+use mathlib.Core.Path.{_≡_, refl, ap}
+use mathlib.Core.List.{List}
+use Prim.Native.Nat.{ℕ, _+_, _-_, _*_, _%_, _≤_, _<_}
+use native.Mathlib.Nat.{mod-lt}
+use native.Mathlib.Omega.{arith}
+use lib.Dec.{lit<}
+use lib.ListN.{length}
+use Rattle.field.specs.Field.{power}
+use Rattle.decoder.proofs.Summands.{Begun, begun-none, begun-more, begun-all, entry-here, entry-on, power-on-mod}
+use borrow.Author.Needs.{needs}
+use Rattle.decoder.proofs.terms.add.Statement.{statement}
+use Rattle.decoder.proofs.terms.add.Tie as tie
+
+abbrev Inv-loop : tie.InvT-loop
+Inv-loop powers e d sums₀ two three four at₀ i₀ sums at i =
+    (i ≤ length sums₀) × (at < 511) × (power at ≡ power (e + d * i)) × Begun e d sums₀ sums i
+
+abbrev μ-loop : tie.MeasureT-loop
+μ-loop powers e d sums₀ two three four at₀ i₀ sums at i = length sums₀ - i
+
+abbrev Inv-loop2 : tie.InvT-loop2
+Inv-loop2 powers e d sums₀ two three four at₀ i₀ sums at i =
+    (i ≤ length sums₀) × (at < 511) × (length sums ≡ length sums₀) × (power at ≡ power (e + d * i))
+    × ((old : List ℕ) → Begun e d old sums₀ i₀ → Begun e d old sums i)
+
+abbrev μ-loop2 : tie.MeasureT-loop2
+μ-loop2 powers e d sums₀ two three four at₀ i₀ sums at i = length sums₀ - i
+
+mul-two : tie.Need-mul-two Inv-loop μ-loop Inv-loop2 μ-loop2
+mul-two c = search needs
+
+mul-three : tie.Need-mul-three Inv-loop μ-loop Inv-loop2 μ-loop2
+mul-three c = search needs
+
+mul-four : tie.Need-mul-four Inv-loop μ-loop Inv-loop2 μ-loop2
+mul-four c = search needs
+
+loop-holds : tie.Need-loop-holds Inv-loop μ-loop Inv-loop2 μ-loop2
+loop-holds c =
+    let args = c .before .args in
+    (omega arith, omega arith, ap power (omega arith), begun-none (args .e) (args .d) (args .sums .now))
+
+add-loop : tie.Need-add-loop Inv-loop μ-loop Inv-loop2 μ-loop2
+add-loop c = search needs
+
+add-at-requires : tie.Need-add-at-requires Inv-loop μ-loop Inv-loop2 μ-loop2
+add-at-requires c κs = search needs
+
+add-add-at : tie.Need-add-add-at Inv-loop μ-loop Inv-loop2 μ-loop2
+add-add-at c = search needs
+
+add-add-at-2 : tie.Need-add-add-at-2 Inv-loop μ-loop Inv-loop2 μ-loop2
+add-add-at-2 c = search needs
+
+add-at-requires-2 : tie.Need-add-at-requires-2 Inv-loop μ-loop Inv-loop2 μ-loop2
+add-at-requires-2 c κs = search needs
+
+add-add-at-3 : tie.Need-add-add-at-3 Inv-loop μ-loop Inv-loop2 μ-loop2
+add-add-at-3 c = search needs
+
+add-add-at-4 : tie.Need-add-add-at-4 Inv-loop μ-loop Inv-loop2 μ-loop2
+add-add-at-4 c = search needs
+
+add-at-requires-3 : tie.Need-add-at-requires-3 Inv-loop μ-loop Inv-loop2 μ-loop2
+add-at-requires-3 c κs = search needs
+
+add-add-at-5 : tie.Need-add-add-at-5 Inv-loop μ-loop Inv-loop2 μ-loop2
+add-add-at-5 c = search needs
+
+add-add-at-6 : tie.Need-add-add-at-6 Inv-loop μ-loop Inv-loop2 μ-loop2
+add-add-at-6 c = search needs
+
+add-at-requires-4 : tie.Need-add-at-requires-4 Inv-loop μ-loop Inv-loop2 μ-loop2
+add-at-requires-4 c κs = search needs
+
+add-reduced : tie.Need-add-reduced Inv-loop μ-loop Inv-loop2 μ-loop2
+add-reduced c = search needs
+
+reduced-requires : tie.Need-reduced-requires Inv-loop μ-loop Inv-loop2 μ-loop2
+reduced-requires c κs = search needs
+
+add-i : tie.Need-add-i Inv-loop μ-loop Inv-loop2 μ-loop2
+add-i c = search needs
+
+loop-less : tie.Need-loop-less Inv-loop μ-loop Inv-loop2 μ-loop2
+loop-less c = omega arith
+
+loop-again : tie.Need-loop-again Inv-loop μ-loop Inv-loop2 μ-loop2
+loop-again c =
+    let fourth = c .before .before .before in
+    let third = fourth .before .before .before .before in
+    let second = third .before .before .before .before in
+    let first = second .before .before .before .before in
+    let loop = first .before .before .before .loop in
+    let start = first .before .before .before .before .before in
+    let e = start .args .e in
+    let d = start .args .d in
+    let i = loop .i in
+    let at = loop .at in
+    let is = loop .inv .2 in
+    let table = start .pre .0 in
+    let low = loop .inv .1 in
+    let one : d ≡ d * 1 % 511 = omega arith in
+    let on = entry-on e d i at is table low in
+    let old = start .args .sums .now in
+    let b1 = begun-more e d old (loop .inv .3) (omega arith) (first .add-at .ensures) (entry-here e d i at is table low) (i + 1) (omega arith) in
+    let b2 = begun-more e d old b1 (omega arith) (second .add-at2 .ensures) (on d 1 one) (i + 2) (omega arith) in
+    let b3 = begun-more e d old b2 (omega arith) (third .add-at3 .ensures) (on _ 2 refl) (i + 3) (omega arith) in
+    let b4 = begun-more e d old b3 (omega arith) (fourth .add-at4 .ensures) (on _ 3 refl) (i + 4) (omega arith) in
+    (omega arith, rw (c .reduced .ensures) (mod-lt _ (lit< tt)), rw (c .reduced .ensures) (power-on-mod e d i at is _ 4 refl), b4)
+
+loop2-holds : tie.Need-loop2-holds Inv-loop μ-loop Inv-loop2 μ-loop2
+loop2-holds c = search needs
+
+add-at-requires-5 : tie.Need-add-at-requires-5 Inv-loop μ-loop Inv-loop2 μ-loop2
+add-at-requires-5 c κs = search needs
+
+add-reduced-2 : tie.Need-add-reduced-2 Inv-loop μ-loop Inv-loop2 μ-loop2
+add-reduced-2 c = search needs
+
+reduced-requires-2 : tie.Need-reduced-requires-2 Inv-loop μ-loop Inv-loop2 μ-loop2
+reduced-requires-2 c κs = search needs
+
+add-i-2 : tie.Need-add-i-2 Inv-loop μ-loop Inv-loop2 μ-loop2
+add-i-2 c = search needs
+
+loop2-less : tie.Need-loop2-less Inv-loop μ-loop Inv-loop2 μ-loop2
+loop2-less c = omega arith
+
+loop2-again : tie.Need-loop2-again Inv-loop μ-loop Inv-loop2 μ-loop2
+loop2-again c =
+    let added = c .before .before .before in
+    let loop = added .before .before .before .loop2 in
+    let start = added .before .before .before .before .before .before .before in
+    let e = start .args .e in
+    let d = start .args .d in
+    let i = loop .i in
+    let at = loop .at in
+    let is = loop .inv .3 in
+    let one : d ≡ d * 1 % 511 = omega arith in
+    let there = added .add-at5 .ensures in
+    let here = entry-here e d i at is (start .pre .0) (loop .inv .1) in (
+      omega arith,
+      rw (c .reduced2 .ensures) (mod-lt _ (lit< tt)),
+      omega arith,
+      rw (c .reduced2 .ensures) (power-on-mod e d i at is d 1 one),
+      λ old b. begun-more e d old (loop .inv .4 old b) (omega (arith, b .long)) there here (i + 1) (omega arith),
+    )
+
+same-length : tie.Need-same-length Inv-loop μ-loop Inv-loop2 μ-loop2
+same-length c = search needs
+
+returns : tie.Need-returns Inv-loop μ-loop Inv-loop2 μ-loop2
+returns c =
+    let start = c .before .before .before .before .before in
+    begun-all (start .args .e) (start .args .d) (start .args .sums .now) (c .before .loop2 .inv .4 _ (c .before .before .before .loop .inv .3)) (omega arith)
+
+pub add-spec : {M : Type 1} → statement M
+add-spec =
+    tie.close
+    (tie.spec
+    Inv-loop
+    μ-loop
+    Inv-loop2
+    μ-loop2
+    mul-two
+    mul-three
+    mul-four
+    loop-holds
+    add-loop
+    add-at-requires
+    add-add-at
+    add-add-at-2
+    add-at-requires-2
+    add-add-at-3
+    add-add-at-4
+    add-at-requires-3
+    add-add-at-5
+    add-add-at-6
+    add-at-requires-4
+    add-reduced
+    reduced-requires
+    add-i
+    loop-less
+    loop-again
+    loop2-holds
+    add-at-requires-5
+    add-reduced-2
+    reduced-requires-2
+    add-i-2
+    loop2-less
+    loop2-again
+    same-length
+    returns)

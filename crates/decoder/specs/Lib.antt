@@ -1,0 +1,2 @@
+pub mod Locators
+pub mod Candidates

@@ -1,0 +1,59 @@
+-- How the code holds syndromes and a locator, and what it does with them: numbers that stand for elements of GF(512).
+-- The promise of decode rests on nothing here: it is what the private functions promise one another.
+-- Assumes nothing.
+use mathlib.Core.Path.{_≡_}
+use mathlib.Core.Logic.{_≢_}
+use mathlib.Core.List.{List}
+use Prim.Native.Nat.{ℕ, suc, _+_, _-_, _*_, _<_}
+use lib.ListN.{length, getD}
+use Rattle.algebra.proofs.Powers.{pow}
+use Rattle.algebra.proofs.Polynomials.{ev}
+use Rattle.algebra.proofs.Berlekamp.{Found}
+use Rattle.field.specs.Tables.{logTable, powerTable}
+use Rattle.field.proofs.Elements.{GF512, element-of}
+use Rattle.field.proofs.Values.{a, series, value}
+use Rattle.bch.specs.Words.{differ}
+use Rattle.decoder.specs.declared.locator.State.{State}
+
+-- the lent tables are the field's
+pub record Lent (logs powers : List ℕ) : Type 0 where
+  pub logs-are : logs ≡ logTable
+  pub powers-are : powers ≡ powerTable
+
+-- every entry is an element
+abbrev pub Small : List ℕ → Type 0
+Small l = (i : ℕ) → getD l i 0 < 512
+
+-- f p is added to the entry p, for each p
+pub record Plus (f : ℕ → GF512 .Element) (old new : List ℕ) : Type 0 where
+  pub long : length new ≡ length old
+  pub each : (p : ℕ) → p < length old → series new p ≡ GF512 .add (series old p) (f p)
+  pub small : Small old → Small new
+
+-- a^(e + d i) is added to the entry i, for each i
+abbrev pub Added : ℕ → ℕ → List ℕ → List ℕ → Type 0
+Added e d = Plus (λ i. pow GF512 a (e + d * i))
+
+-- the term c x^i at x = a^(from + p)
+abbrev pub termAt : ℕ → ℕ → ℕ → ℕ → GF512 .Element
+termAt c i from p = GF512 .mul (element-of c) (pow GF512 (pow GF512 a (from + p)) i)
+
+-- the value of the first n terms of the locator at a^(from + p)
+abbrev pub valueAt : List ℕ → ℕ → ℕ → ℕ → GF512 .Element
+valueAt locator n from p = ev GF512 n (series locator) (pow GF512 a (from + p))
+
+-- the first `count` entries are the values at a, a^2, ..
+abbrev pub Syndromes : List ℕ → ℕ → List ℕ → Type 0
+Syndromes bits count s = (i : ℕ) → i < count → series s i ≡ value (pow GF512 a (suc i)) bits
+
+-- the state after r syndromes
+pub record After (s : List ℕ) (r : ℕ) (q : State) : Type 0 where
+  pub found : Found GF512 (series s) r (series (q .locator)) (series (q .other)) (q .len) (element-of (q .b))
+  pub small : Small (q .locator)
+
+-- `copy` is the word, flipped where the locator vanishes, and m is the number of those places
+pub record Turned (locator : List ℕ) (len : ℕ) (word copy : List ℕ) (m : ℕ) : Type 0 where
+  pub long : length copy ≡ length word
+  pub flipped : (i : ℕ) → i < length word → valueAt locator (suc len) (512 - length word) i ≡ GF512 .zero → getD copy i 0 ≡ 1 - getD word i 0
+  pub kept : (i : ℕ) → i < length word → valueAt locator (suc len) (512 - length word) i ≢ GF512 .zero → getD copy i 0 ≡ getD word i 0
+  pub count : m ≡ differ copy word

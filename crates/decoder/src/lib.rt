@@ -1,0 +1,58 @@
+// Decode one word of the three truncated BCH codes of clause 6.3.
+//
+// With a a root of x^9 + x^4 + 1, a code's generator has the roots a, a^2, .., a^2t; so a word that differs from a codeword in at most t
+// places differs so from one codeword alone, and decode finds it:
+//
+//   mending    the remainder of the whole word: zero for a codeword, which is its own answer; else the steps below, and a last look
+//   terms      the terms of a polynomial, added up at many powers of a at once
+//   syndrome   the values of what is left at a, a^2, .., a^2t
+//   locator    the shortest recurrence of the syndromes, by Berlekamp and Massey, without inverses
+//   search     the places of the shortened word at which the locator vanishes, flipped in a copy
+//
+// The copy is answered only if it is a codeword, by the remainder again, and differs in at most t places. What the algebra shows is that
+// no word within t of a codeword is missed.
+ghost use Rattle.bch.specs.Codes.{known};
+ghost use Rattle.bch.specs.Held.{codeOf, Sound};
+ghost use Rattle.bch.specs.Promise.{checkedBy, Decodes, Decoding};
+
+mod locator;
+mod mending;
+mod search;
+mod syndrome;
+mod terms;
+
+use bch::Decoded;
+use bch::Refusal;
+use bch::code;
+use bch::code::Held;
+use bch::code::Named;
+use bch::word;
+
+// Writes the n bits of the codeword that differs from the n bits of word in at most t places, if there is one.
+pub fn decode(code: u8, word: &[u8], out: &mut [u8]) -> Decoded
+    ensures { λ r. ⌜ Decoding code (now (word .entry)) (now (out .entry)) r (now (out .exit)) ⌝ }
+{
+    let named = code::numbered(code);
+    match named {
+        Named::Known(c) => checked(c, word, out),
+        Named::Unknown => Decoded::Refused(Refusal::UnknownCode),
+    }
+}
+
+// The checks 2, 3 and 4, and then the answer.
+fn checked(c: Held, bits: &[u8], out: &mut [u8]) -> Decoded
+    requires { ⌜ Sound c ⌝ }
+    ensures { λ r. ⌜ Decodes (checkedBy (known (codeOf c)) (λ d. d .n) (now (bits .entry)) (now (out .entry))) (now (bits .entry)) (now (out .entry)) r (now (out .exit)) ⌝ }
+{
+    if bits.len() != c.n {
+        return Decoded::Refused(Refusal::WrongLength);
+    }
+    if out.len() < c.n {
+        return Decoded::Refused(Refusal::NoRoom);
+    }
+    let bad = word::first_bad(bits);
+    if bad < bits.len() {
+        return Decoded::Refused(Refusal::NotABit(bad));
+    }
+    mending::answer(c, bits, out)
+}

@@ -1,0 +1,147 @@
+// The error locator: the shortest recurrence that makes the syndromes, by Berlekamp and Massey, without inverses.
+// The state holds the locator, its length, the textbook's x^m B as one polynomial `other`, which is only ever shifted, and the
+// discrepancy of the last change of length.
+ghost use mathlib.Core.Path.{_≡_};
+ghost use mathlib.Core.List.{List, _∷_};
+ghost use Prim.Native.Nat.{ℕ, _+_, _<_, _≤_};
+ghost use lib.ListN.{take};
+ghost use Rattle.algebra.proofs.Series.{conv, mix};
+ghost use Rattle.field.proofs.Elements.{GF512, element-of};
+ghost use Rattle.field.proofs.Values.{series};
+ghost use Rattle.decoder.specs.Locators.{Lent, Small, After};
+
+pub struct State {
+    pub locator: [u16; 34],
+    pub other: [u16; 34],
+    pub len: usize,
+    pub b: u16,
+}
+
+fn start() -> State
+    ensures { λ q. ⌜ ((s : List ℕ) → After s 0 q) ⌝ }
+{
+    let mut locator = [0u16; 34];
+    locator[0] = 1;
+    let mut other = [0u16; 34];
+    other[1] = 1;
+    State {
+        locator,
+        other,
+        len: 0,
+        b: 1,
+    }
+}
+
+// The sum of locator[j] s[r - j] over j up to r.
+fn discrepancy(
+    logs: &[u16; 512],
+    powers: &[u16; 1022],
+    s: &[u16; 32],
+    locator: &[u16; 34],
+    r: usize,
+) -> u16
+    requires { ⌜ Lent (now logs) (now powers) × (r < 32) ⌝ }
+    ensures { λ d. ⌜ (element-of d ≡ conv GF512 (series (now (locator .entry))) (series (now (s .entry))) r) × (d < 512) ⌝ }
+{
+    let mut d: u16 = 0;
+    let mut j: usize = 0;
+    while j <= r {
+        d = d ^ field::product_from(logs, powers, locator[j], s[r - j]);
+        j += 1;
+    }
+    d
+}
+
+// b locator + d other, coefficient by coefficient.
+fn mixed(
+    logs: &[u16; 512],
+    powers: &[u16; 1022],
+    locator: &[u16; 34],
+    other: &[u16; 34],
+    b: u16,
+    d: u16,
+) -> [u16; 34]
+    requires { ⌜ Lent (now logs) (now powers) ⌝ }
+    ensures { λ p. ⌜ ((i : ℕ) → series p i ≡ mix GF512 (element-of b) (element-of d) (series (now (locator .entry))) (series (now (other .entry))) i) × Small p ⌝ }
+{
+    // As slices, whose length the proof knows.
+    let f: &[u16] = locator;
+    let g: &[u16] = other;
+    let mut out = [0u16; 34];
+    let mut i: usize = 0;
+    while i < 34 {
+        out[i] = field::product_from(logs, powers, b, f[i])
+            ^ field::product_from(logs, powers, d, g[i]);
+        i += 1;
+    }
+    out
+}
+
+// x times the polynomial.
+fn moved(p: &[u16; 34]) -> [u16; 34]
+    ensures { λ q. ⌜ q ≡ 0 ∷ take 33 (now (p .entry)) ⌝ }
+{
+    // As a slice, whose length the proof knows.
+    let entries: &[u16] = p;
+    let mut out = [0u16; 34];
+    let mut i: usize = 1;
+    while i < 34 {
+        out[i] = entries[i - 1];
+        i += 1;
+    }
+    out
+}
+
+// The syndrome r taken in.
+fn step(logs: &[u16; 512], powers: &[u16; 1022], s: &[u16; 32], state: State, r: usize) -> State
+    requires { ⌜ Lent (now logs) (now powers) × (r < 32) × After (now s) r state ⌝ }
+    ensures { λ q. ⌜ After (now (s .entry)) (r + 1) q ⌝ }
+{
+    let locator = state.locator;
+    let other = state.other;
+    let len = state.len;
+    let b = state.b;
+    let d = discrepancy(logs, powers, s, &locator, r);
+    if d == 0 {
+        return State {
+            locator,
+            other: moved(&other),
+            len,
+            b,
+        };
+    }
+    let next = mixed(logs, powers, &locator, &other, b, d);
+    if r < len + len {
+        return State {
+            locator: next,
+            other: moved(&other),
+            len,
+            b,
+        };
+    }
+    State {
+        locator: next,
+        other: moved(&locator),
+        len: r + 1 - len,
+        b: d,
+    }
+}
+
+// The state after the first count syndromes.
+pub(crate) fn shortest(
+    logs: &[u16; 512],
+    powers: &[u16; 1022],
+    s: &[u16; 32],
+    count: usize,
+) -> State
+    requires { ⌜ Lent (now logs) (now powers) × (count ≤ 32) ⌝ }
+    ensures { λ q. ⌜ After (now (s .entry)) count q ⌝ }
+{
+    let mut state = start();
+    let mut r: usize = 0;
+    while r < count {
+        state = step(logs, powers, s, state, r);
+        r += 1;
+    }
+    state
+}

@@ -1,0 +1,99 @@
+// One word of a code that is held: itself where it is a codeword, else the copy that an attempt gives.
+ghost use mathlib.Core.Path.{_≡_};
+ghost use lib.ListN.{length};
+ghost use Rattle.bch.specs.Promise.{passes, Decodes};
+ghost use Rattle.bch.specs.Registers.{number};
+ghost use Rattle.bch.specs.Held.{codeOf, Fitting};
+ghost use Rattle.decoder.specs.Candidates.{leftover, Attempt, Settles};
+use crate::locator;
+use crate::search;
+use crate::syndrome;
+use bch::Decoded;
+use bch::Refusal;
+use bch::code::Held;
+use bch::register;
+use bch::register::Register;
+
+// The remainder of the whole word: that of its first k bits, and the other bits added.
+fn leftover(c: Held, bits: &[u8]) -> Register
+    requires { ⌜ Fitting c (c .n) (now bits) (now bits) ⌝ }
+    ensures { λ q. ⌜ number q ≡ leftover c (now (bits .entry)) ⌝ }
+{
+    let k = c.k;
+    let generator = c.generator;
+    register::xor(
+        register::remainder(generator, &bits[..k]),
+        register::packed(&bits[k..]),
+    )
+}
+
+// What an attempt gives: a copy with so many places flipped, or nothing.
+pub enum Tried {
+    Flipped(usize),
+    Nothing,
+}
+
+// The word itself where it is a codeword, else the copy that an attempt gives, if that is one.
+pub(crate) fn answer(c: Held, bits: &[u8], out: &mut [u8]) -> Decoded
+    requires { ⌜ Fitting c (c .n) (now bits) (now out) ⌝ }
+    ensures { λ r. ⌜ Decodes (passes (codeOf c)) (now (bits .entry)) (now (out .entry)) r (now (out .exit)) ⌝ }
+{
+    let left = leftover(c, bits);
+    if register::is_zero(left) {
+        bytes::copy(bits, out);
+        return Decoded::Accepted(0);
+    }
+    let n = c.n;
+    let mut copy = zeros();
+    mend(c, left, bits, &mut copy[0..n], out)
+}
+
+// The copy that an attempt gives, if it gives one and that is a codeword.
+fn mend(c: Held, left: Register, bits: &[u8], copy: &mut [u8], out: &mut [u8]) -> Decoded
+    requires { ⌜ Fitting c (c .n) (now bits) (now out) ⌝ }
+    requires { ⌜ (length (now copy) ≡ c .n) × (number left ≡ leftover c (now bits)) ⌝ }
+    ensures { λ r. ⌜ Decodes (passes (codeOf c)) (now (bits .entry)) (now (out .entry)) r (now (out .exit)) ⌝ }
+{
+    let tried = attempt(c, left, bits, copy);
+    match tried {
+        Tried::Nothing => Decoded::Refused(Refusal::Uncorrectable),
+        Tried::Flipped(m) => settle(c, m, copy, out),
+    }
+}
+
+// Room for a word of any of the codes.
+fn zeros() -> [u8; 508]
+    ensures { λ r. ⌜ length r ≡ 508 ⌝ }
+{
+    [0u8; 508]
+}
+
+// Writes the copy and answers m, if it is a codeword.
+fn settle(c: Held, m: usize, copy: &[u8], out: &mut [u8]) -> Decoded
+    requires { ⌜ Fitting c (c .n) (now copy) (now out) ⌝ }
+    ensures { λ r. ⌜ Settles (codeOf c) (now (copy .entry)) (now (out .entry)) m r (now (out .exit)) ⌝ }
+{
+    if register::is_zero(leftover(c, copy)) {
+        bytes::copy(copy, out);
+        return Decoded::Accepted(m);
+    }
+    Decoded::Refused(Refusal::Uncorrectable)
+}
+
+// Flips in copy the places that the locator gives, unless it is longer than t.
+fn attempt(c: Held, left: Register, bits: &[u8], copy: &mut [u8]) -> Tried
+    requires { ⌜ Fitting c (c .n) (now bits) (now copy) ⌝ }
+    requires { ⌜ (length (now copy) ≡ c .n) × (number left ≡ leftover c (now bits)) ⌝ }
+    ensures { λ r. ⌜ Attempt (codeOf c) (now (bits .entry)) r (now (copy .exit)) ⌝ }
+{
+    let logs = field::log_table();
+    let powers = field::power_table();
+    let s = syndrome::syndromes(&powers, left, c.n - c.k, c.t * 2);
+    let found = locator::shortest(&logs, &powers, &s, c.t * 2);
+    let len = found.len;
+    if c.t < len {
+        return Tried::Nothing;
+    }
+    let lam = found.locator;
+    Tried::Flipped(search::flip(&logs, &powers, &lam, len, bits, copy))
+}

@@ -1,0 +1,3 @@
+-- The laws of the crate.
+pub mod Checking
+pub mod Symbols

@@ -1,0 +1,28 @@
+// Sending Payload A of HiNoC (ITU-T J.195.2, clause 7.4, as document 01 reads it): a frame to points.
+//
+//   phases      DQPSK, clause 6.4.2
+//   sender      one frame, whose mode and length are checked
+ghost use Rattle.payload_a.specs.PromiseA.{SendingA};
+
+mod phases;
+mod sender;
+
+use payload::Refusal;
+use payload::Sent;
+
+// Sends a frame: mode 0 is uncoded, 94 bytes; mode 1 is coded, 58 bytes. Writes 512 elements of I and of Q.
+pub fn send_a(mode: u8, frame: &[u8], i: &mut [i16], q: &mut [i16]) -> Sent
+    ensures { λ r. ⌜ SendingA mode (now (frame .entry)) (now (i .entry)) (now (q .entry)) r (now (i .exit)) (now (q .exit)) ⌝ }
+{
+    if 1 < mode {
+        return Sent::Refused(Refusal::UnknownMode);
+    }
+    if frame.len() != payload_a::bytes_a(mode) {
+        return Sent::Refused(Refusal::WrongLength);
+    }
+    if !payload::room(512, i, q) {
+        return Sent::Refused(Refusal::NoRoom);
+    }
+    sender::send(mode, frame, i, q);
+    Sent::Accepted
+}
