@@ -11,6 +11,9 @@ const PLUS_J: Point = (0, 1);
 /// -j.
 const MINUS_J: Point = (0, -1);
 
+/// The four points.
+pub const POINTS: [Point; 4] = [PLUS_ONE, MINUS_ONE, PLUS_J, MINUS_J];
+
 /// Table 1: a row for each last symbol, and in it the next symbol for the dibits 00, 01, 10, 11.
 const TABLE: [(Point, [Point; 4]); 4] = [
     (PLUS_ONE, [PLUS_ONE, PLUS_J, MINUS_J, MINUS_ONE]),
@@ -21,7 +24,7 @@ const TABLE: [(Point, [Point; 4]); 4] = [
 
 /// Whether the point is one of the four.
 pub fn is_legal(point: Point) -> bool {
-    TABLE.iter().any(|row| row.0 == point)
+    POINTS.contains(&point)
 }
 
 /// The row of a legal point.

@@ -7,13 +7,14 @@ mod bursts;
 mod frames;
 mod grids;
 mod lent;
+mod strays;
 mod words;
 
 use crate::rng::Rng;
 use crate::trial::Request;
 
-/// How many of fifty requests each job gets, jobs 1 to 6.
-const SHARES: [usize; 6] = [4, 20, 4, 9, 4, 9];
+/// How many of 53 requests each job gets, jobs 1 to 6.
+const SHARES: [usize; 6] = [4, 20, 4, 9, 4, 12];
 
 /// The request of this index, of one of these jobs.
 pub fn request(seed: u64, index: u64, jobs: &[u8]) -> Request {
@@ -98,6 +99,7 @@ fn place(rng: &mut Rng, count: usize) -> usize {
 #[cfg(test)]
 mod tests {
     use super::*;
+    use crate::stray::{Kind, Legal};
     use crate::tally::Tally;
 
     #[test]
@@ -126,6 +128,27 @@ mod tests {
                 assert_eq!(numbers.contains(&number), seen > 0, "job {} number {number}: {seen}", job + 1);
                 assert!(seen == 0 || seen >= 5);
             }
+        }
+    }
+
+    #[test]
+    fn every_kind_of_stray_point_decides_answers_on_both_halves() {
+        for (job, all) in [(4, vec![Legal::Dqpsk]), (6, (2..=10).map(Legal::Qam).collect())] {
+            let tally = Tally::of(1, 5_000, &[job]);
+            for (legal, half) in all.iter().flat_map(|&legal| [(legal, 0), (legal, 1)]) {
+                for kind in legal.kinds() {
+                    let seen = tally.strays.count(legal, |h, k| (h, k) == (half, kind));
+                    assert!(seen > 0, "{legal:?}, half {half}, {kind:?}");
+                }
+            }
+        }
+    }
+
+    #[test]
+    fn holes_decide_answers_among_the_committed_requests() {
+        let tally = Tally::of(1, 1_500, &[1, 2, 3, 4, 5, 6]);
+        for bits in [5, 7, 9] {
+            assert!(tally.strays.count(Legal::Qam(bits), |_, kind| kind == Kind::Hole) > 0, "{bits} bits");
         }
     }
 

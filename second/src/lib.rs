@@ -13,10 +13,13 @@
 //! | `payload_a`, `payload_b` | the two payloads, both directions |
 //! | `trial` | the request and response format of the trial program |
 //! | `rng`, `hostile` | requests from a seed, most of them meant to break something |
+//! | `stray` | kinds of stray points, most of them near the legal ones |
 //! | `largest` | the largest frames of Payload B, and one byte or block more |
 //! | `compare`, `tally`, `numbers` | driving another program; counting refusals; document 01's numbers |
+//! | `astray` | words with more than t hits that are mended into a codeword that was not sent |
 
 pub mod answer;
+pub mod astray;
 pub mod bch;
 pub mod bits;
 pub mod check;
@@ -34,5 +37,6 @@ pub mod points;
 pub mod poly;
 pub mod rng;
 pub mod scrambler;
+pub mod stray;
 pub mod tally;
 pub mod trial;

@@ -2,7 +2,7 @@
 
 use second::points::constellation;
 use second::tally::Tally;
-use second::{compare, field, hostile, largest, numbers, trial};
+use second::{astray, compare, field, hostile, largest, numbers, trial};
 use std::io::{self, BufWriter, Write};
 use std::process::ExitCode;
 
@@ -12,11 +12,12 @@ second responses < REQUESTS                     writes the responses that are ex
 second compare SEED COUNT [JOBS] -- COMMAND..   drives a trial program, prints differences and 'N passed, M failed'
 second largest SEED -- COMMAND..                drives a trial program with the largest frames of Payload B, and one byte or block more
 second one SEED INDEX [JOBS]                    writes the single request of this index
-second tally SEED COUNT [JOBS]                  counts the refusal numbers of each job, their places, and what came as far as the decoder
+second tally SEED COUNT [JOBS]                  counts the refusal numbers of each job, their places, what came as far as the decoder, and kinds of stray points
+second astray SEED COUNT [CODES]                counts words with more than t hits that are refused, and that are mended into another codeword
 second numbers                                  checks document 01's numbers
 second field                                    writes all products and inverses of GF(512)
 second points                                   writes all points, and the label of every point near them
-JOBS is a string of job digits, such as 2 or 56; without it, 123456.";
+JOBS is a string of job digits, such as 2 or 56; without it, 123456. CODES likewise; without it, 123.";
 
 fn main() -> ExitCode {
     let args: Vec<String> = std::env::args().skip(1).collect();
@@ -36,21 +37,6 @@ fn run(args: &[String]) -> io::Result<bool> {
     let mut out = BufWriter::new(io::stdout().lock());
     let words: Vec<&str> = args.iter().map(String::as_str).collect();
     let good = match words[..] {
-        ["requests", seed, count, ref jobs @ ..] => {
-            let (seed, count, jobs) = (number(seed)?, number(count)?, jobs_of(jobs)?);
-            for index in 0..count {
-                out.write_all(&hostile::request(seed, index, &jobs).to_bytes())?;
-            }
-            true
-        }
-        ["one", seed, index, ref jobs @ ..] => {
-            out.write_all(&hostile::request(number(seed)?, number(index)?, &jobs_of(jobs)?).to_bytes())?;
-            true
-        }
-        ["responses"] => {
-            trial::run(&mut io::stdin().lock(), &mut out)?;
-            true
-        }
         ["compare", seed, count, ref rest @ ..] => {
             let (jobs, command) = command_of(rest)?;
             compare::compare(number(seed)?, number(count)?, &jobs_of(jobs)?, &command, &mut out)?
@@ -59,23 +45,37 @@ fn run(args: &[String]) -> io::Result<bool> {
             let (_, command) = command_of(rest)?;
             compare::compare_all(&largest::requests(number(seed)?), &command, &mut out)?
         }
-        ["tally", seed, count, ref jobs @ ..] => {
-            writeln!(out, "{}", Tally::of(number(seed)?, number(count)?, &jobs_of(jobs)?))?;
-            true
-        }
         ["numbers"] => numbers::numbers(&mut out)?,
-        ["field"] => {
-            write_field(&mut out)?;
+        _ => {
+            write(&words, &mut out)?;
             true
         }
-        ["points"] => {
-            write_points(&mut out)?;
-            true
-        }
-        _ => return Err(usage("what is to be done?")),
     };
     out.flush()?;
     Ok(good)
+}
+
+/// The commands that only write.
+fn write(words: &[&str], out: &mut impl Write) -> io::Result<()> {
+    match words {
+        ["requests", seed, count, jobs @ ..] => {
+            let (seed, count, jobs) = (number(seed)?, number(count)?, jobs_of(jobs)?);
+            (0..count).try_for_each(|index| out.write_all(&hostile::request(seed, index, &jobs).to_bytes()))
+        }
+        ["one", seed, index, jobs @ ..] => {
+            out.write_all(&hostile::request(number(seed)?, number(index)?, &jobs_of(jobs)?).to_bytes())
+        }
+        ["responses"] => trial::run(&mut io::stdin().lock(), out),
+        ["tally", seed, count, jobs @ ..] => {
+            writeln!(out, "{}", Tally::of(number(seed)?, number(count)?, &jobs_of(jobs)?))
+        }
+        ["astray", seed, count, codes @ ..] => {
+            astray::write(number(seed)?, number(count)?, &digits_of(codes, "123")?, out)
+        }
+        ["field"] => write_field(out),
+        ["points"] => write_points(out),
+        _ => Err(usage("what is to be done?")),
+    }
 }
 
 /// The words before --, and the command after it.
@@ -98,16 +98,20 @@ fn number(word: &str) -> io::Result<u64> {
 
 /// The jobs of a string of digits; all six if there is none.
 fn jobs_of(words: &[&str]) -> io::Result<Vec<u8>> {
+    digits_of(words, "123456")
+}
+
+/// The numbers of a string of digits, each one of these; all of them if there is no string.
+fn digits_of(words: &[&str], all: &str) -> io::Result<Vec<u8>> {
     let digits = match words {
-        [] => "123456",
+        [] => all,
         [digits] => digits,
         _ => return Err(usage("too many words")),
     };
-    let jobs: Vec<u8> = digits.bytes().filter(|d| (b'1'..=b'6').contains(d)).map(|d| d - b'0').collect();
-    if jobs.is_empty() || jobs.len() != digits.len() {
-        return Err(usage(&format!("{digits} are no jobs")));
+    if digits.is_empty() || !digits.chars().all(|digit| all.contains(digit)) {
+        return Err(usage(&format!("{digits}: only digits of {all} are meant")));
     }
-    Ok(jobs)
+    Ok(digits.bytes().map(|digit| digit - b'0').collect())
 }
 
 /// All products, x outer and y inner, then the inverses, that of 0 being 0: two bytes each, little-endian.

@@ -1,11 +1,14 @@
-//! What the requests of a seed bring up: each refusal number of each job and its places, and of the words, bursts and frames that came as
-//! far as the decoder, by code or mode, how many, and which counts.
+//! What the requests of a seed bring up: each refusal number of each job and its places; of the words, bursts and
+//! frames that came as far as the decoder, by code or mode, how many, and which counts; and the kinds of stray points.
 
-use crate::answer::Answer;
+mod strays;
+
+use crate::answer::{Answer, Refusal};
 use crate::hostile;
 use crate::trial::{Request, JOBS};
 use std::collections::{BTreeMap, BTreeSet};
 use std::fmt;
+use strays::Strays;
 
 #[derive(Default)]
 pub struct Tally {
@@ -15,6 +18,8 @@ pub struct Tally {
     places: [[BTreeSet<u64>; 11]; 6],
     /// What came as far as the decoder, by job and by code or mode.
     reached: BTreeMap<(u8, u8), Reached>,
+    /// The stray points that were refused.
+    pub strays: Strays,
 }
 
 #[derive(Default)]
@@ -50,6 +55,9 @@ impl Tally {
                 reached.protected.insert(counts.protected);
             }
         }
+        if let Err(Refusal::Stray(index)) = *answer {
+            self.strays.add(request, index);
+        }
     }
 }
 
@@ -83,7 +91,7 @@ impl fmt::Display for Tally {
                 write!(f, "; protected {}", Runs(&reached.protected))?;
             }
         }
-        Ok(())
+        write!(f, "{}", self.strays)
     }
 }
 

@@ -1,4 +1,4 @@
-//! The trial program's format (ARCHITECTURE.md, "The trial program"): requests in, the calls made, responses out.
+//! The trial program's format (the head of crates/trial/src/main.rt): requests in, the calls made, responses out.
 //!
 //! Integers are little-endian. A list is a 4-byte count and its elements, a byte each, or two for a level. An unknown
 //! job, a list too long for its buffer or a cut request ends the run after the responses so far.

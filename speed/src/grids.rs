@@ -77,7 +77,7 @@ impl Longest {
             theirs,
             inputs: (0..SYMBOLS / self.symbols).map(|_| input(&mut rng)).collect(),
             group: (GROUP / self.symbols).max(1),
-            told: Some(Answer { number: 0, mended: mended as u64, protected: 0, place: 0 }),
+            told: Some(Answer { mended: mended as u64, ..Answer::default() }),
         }
     }
 

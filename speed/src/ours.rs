@@ -2,7 +2,7 @@
 
 use crate::rows::{Answer, Input, Memory};
 
-/// What every call but ortkaveq_receive_a answers.
+/// What every call but two answers.
 #[repr(C)]
 struct Told {
     number: u32,
@@ -16,6 +16,14 @@ struct ReceivedTold {
     number: u32,
     mended: u16,
     protected: u16,
+    place: u64,
+}
+
+/// What ortkaveq_symbols_b answers.
+#[repr(C)]
+struct NeededTold {
+    number: u32,
+    symbols: u32,
     place: u64,
 }
 
@@ -63,6 +71,7 @@ extern "C" {
         area: *mut u8,
         room: usize,
     ) -> Told;
+    fn ortkaveq_symbols_b(mode: u8, size: usize, scheme: *const u8, entries: usize) -> NeededTold;
 }
 
 // In every call below each pair is a slice of this program, and the memory is lent to nobody else.
@@ -89,7 +98,7 @@ pub fn receive_a(input: &Input, memory: &mut Memory) -> Answer {
     let r = unsafe {
         ortkaveq_receive_a(input.number, i.as_ptr(), i.len(), q.as_ptr(), q.len(), area.as_mut_ptr(), area.len())
     };
-    Answer { number: r.number, mended: r.mended.into(), protected: r.protected.into(), place: r.place }
+    Answer { protected: r.protected.into(), ..answer(r.number, r.mended.into(), r.place) }
 }
 
 pub fn send_b(input: &Input, memory: &mut Memory) -> Answer {
@@ -127,6 +136,16 @@ pub fn receive_b(input: &Input, memory: &mut Memory) -> Answer {
     })
 }
 
+pub fn symbols_b(input: &Input, _: &mut Memory) -> Answer {
+    let scheme = &input.scheme;
+    let r = unsafe { ortkaveq_symbols_b(input.number, input.size, scheme.as_ptr(), scheme.len()) };
+    Answer { symbols: r.symbols.into(), ..answer(r.number, 0, r.place) }
+}
+
 fn told(r: Told) -> Answer {
-    Answer { number: r.number, mended: r.mended.into(), protected: 0, place: r.place }
+    answer(r.number, r.mended.into(), r.place)
+}
+
+fn answer(number: u32, mended: u64, place: u64) -> Answer {
+    Answer { number, mended, place, ..Answer::default() }
 }

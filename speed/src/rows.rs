@@ -1,4 +1,5 @@
-//! The rows of the tables: what is called, and on what. Here those of the codes and of Payload A.
+//! The rows of the tables: what is called, and on what. Here those of the codes and of Payload A, and of the OFDM symbols
+//! that a frame of Payload B needs.
 
 use crate::{ours, theirs};
 use second::rng::Rng;
@@ -43,11 +44,12 @@ impl Memory {
 }
 
 /// Document 01's number, 0 for success, its place, and the counts, 0 where a call has none.
-#[derive(Debug, PartialEq)]
+#[derive(Debug, Default, PartialEq)]
 pub struct Answer {
     pub number: u32,
     pub mended: u64,
     pub protected: u64,
+    pub symbols: u64,
     pub place: u64,
 }
 
@@ -72,10 +74,11 @@ const ENCODE: Calls = (ours::encode, theirs::encode);
 const DECODE: Calls = (ours::decode, theirs::decode);
 const SEND_A: Calls = (ours::send_a, theirs::send_a);
 const RECEIVE_A: Calls = (ours::receive_a, theirs::receive_a);
+const SYMBOLS_B: Calls = (ours::symbols_b, theirs::symbols_b);
 
-/// All rows of the codes and of Payload A.
+/// All rows but those of sending and receiving Payload B.
 pub fn all() -> impl Iterator<Item = Row> {
-    (1..=3).flat_map(of_code).chain(of_payload_a())
+    (1..=3).flat_map(of_code).chain(of_payload_a()).chain([symbols_needed()])
 }
 
 fn row(of: &str, name: &str, (ours, theirs): Calls, mut input: impl FnMut() -> Input) -> Row {
@@ -120,6 +123,17 @@ fn of_payload_a() -> Vec<Row> {
         row(0, "send", SEND_A, &frame),
         row(0, "receive, clean", RECEIVE_A, &|rng, mode| burst(rng, mode, 0)),
     ]
+}
+
+/// Frames of Payload B in any mode, by schemes at random: of whole blocks, or a byte more; some are too long.
+fn symbols_needed() -> Row {
+    let mut rng = Rng::new(6);
+    row("Payload B", "symbols needed", SYMBOLS_B, || {
+        let (number, blocks) = (rng.below(3) as u8, rng.between(1, 700));
+        let size = blocks * [100, 59, 54][number as usize] + rng.pick(&[0, 0, 0, 1]);
+        let scheme = (0..grid::AVAILABLE).map(|_| rng.between(2, 10) as u8).collect();
+        Input { number, size, scheme, ..Input::default() }
+    })
 }
 
 /// A frame of this mode.

@@ -28,9 +28,20 @@ pub fn receive_b(input: &Input, memory: &mut Memory) -> Answer {
     told(payload_b::receive(input.number, size, &input.scheme, &input.i, &input.q, &mut memory.bytes))
 }
 
+pub fn symbols_b(input: &Input, _: &mut Memory) -> Answer {
+    match payload_b::plan(input.number, input.size as u64, &input.scheme) {
+        Ok(plan) => Answer { symbols: plan.symbols as u64, ..Answer::default() },
+        Err(refusal) => refused(refusal),
+    }
+}
+
 fn told(answer: answer::Answer) -> Answer {
     match answer {
-        Ok(counts) => Answer { number: 0, mended: counts.mended, protected: counts.protected, place: 0 },
-        Err(refusal) => Answer { number: refusal.number().into(), mended: 0, protected: 0, place: refusal.place() },
+        Ok(counts) => Answer { mended: counts.mended, protected: counts.protected, ..Answer::default() },
+        Err(refusal) => refused(refusal),
     }
+}
+
+fn refused(refusal: answer::Refusal) -> Answer {
+    Answer { number: refusal.number().into(), place: refusal.place(), ..Answer::default() }
 }

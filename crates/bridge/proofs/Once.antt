@@ -8,9 +8,10 @@ use Rattle.bch.proofs.Once.{encode-once, decode-once}
 use Rattle.payload_a.proofs.OnceA.{send-a-once, receive-a-once}
 use Rattle.payload_b.proofs.OnceB.{send-b-once, receive-b-once}
 use Rattle.bridge.specs.Calls.{ofEncoded, ofDecoded, ofSent, ofReceivedA, ofReceivedB}
-use Rattle.bridge.specs.Calls.{EncodeCall, DecodeCall, SendACall, ReceiveACall, SendBCall, ReceiveBCall}
+use Rattle.bridge.specs.Calls.{EncodeCall, DecodeCall, SendACall, ReceiveACall, SendBCall, ReceiveBCall, SymbolsBCall}
 use Rattle.bridge.specs.declared.Answer.{Answer}
 use Rattle.bridge.specs.declared.ReceivedAnswer.{ReceivedAnswer}
+use Rattle.bridge.specs.declared.Needed.{Needed}
 
 module _ {c : ℕ} {word out : List ℕ} {r s : Answer} {u v : List ℕ} where
   pub encode-call-once : EncodeCall c word out r u → EncodeCall c word out s v → (r ≡ s) × (u ≡ v)
@@ -46,3 +47,6 @@ module _ {mode size : ℕ} {scheme : List ℕ} {is qs : List ℤ} {area : List �
   receive-b-call-once p q =
       let same = receive-b-once area (p .answer) (q .answer) u v mode size scheme is qs (p .promise) (q .promise) in
       (p .told ∙ ap ofReceivedB (same .0) ∙ sym (q .told), same .1)
+
+pub symbols-b-call-once : (mode size : ℕ) (scheme : List ℕ) {r s : Needed} → SymbolsBCall mode size scheme r → SymbolsBCall mode size scheme s → r ≡ s
+symbols-b-call-once mode size scheme p q = p ∙ sym q

@@ -12,12 +12,15 @@ use Rattle.payload.specs.declared.Sent.{Sent}
 use Rattle.payload_a.specs.declared.ReceivedA.{ReceivedA}
 use Rattle.payload_b.specs.declared.ReceivedB.{ReceivedB}
 use Rattle.payload.specs.Answers.{sentNumber, sentPlace}
+use Rattle.payload.specs.Checked.{Checked, fails, passes}
 use Rattle.payload_a.specs.AnswersA.{numberA, placeA, mendedA, protectedA}
 use Rattle.payload_b.specs.AnswersB.{numberB, placeB, mendedB}
 use Rattle.payload_a.specs.PromiseA.{SendingA, ReceivingA}
-use Rattle.payload_b.specs.PromiseB.{SendingB, ReceivingB}
+use Rattle.payload_b.specs.CodedB.{symbolsFor}
+use Rattle.payload_b.specs.PromiseB.{planned, SendingB, ReceivingB}
 use Rattle.bridge.specs.declared.Answer.{Answer}
 use Rattle.bridge.specs.declared.ReceivedAnswer.{ReceivedAnswer}
+use Rattle.bridge.specs.declared.Needed.{Needed}
 
 -- encode has no count
 abbrev pub ofEncoded : Encoded → Answer
@@ -35,6 +38,11 @@ ofReceivedA a = record { number = numberA a; mended = mendedA a; protected = pro
 
 abbrev pub ofReceivedB : ReceivedB → Answer
 ofReceivedB a = record { number = numberB a; mended = mendedB a; place = placeB a }
+
+-- what the checks found, and the OFDM symbols needed where all pass
+abbrev pub ofChecked : Checked → ℕ → Needed
+ofChecked (fails number place) symbols = record { number = number; symbols = 0; place = place }
+ofChecked passes symbols = record { number = 0; symbols = symbols; place = 0 }
 
 -- ortkaveq_encode(c, word, out): the answer, and `out` after
 pub record EncodeCall (c : ℕ) (word out : List ℕ) (r : Answer) (after : List ℕ) : Type 0 where
@@ -71,3 +79,7 @@ pub record ReceiveBCall (mode size : ℕ) (scheme : List ℕ) (is qs : List ℤ)
   pub answer : ReceivedB
   pub promise : ReceivingB mode size scheme is qs area answer after
   pub told : r ≡ ofReceivedB answer
+
+-- ortkaveq_symbols_b(mode, size, scheme): the checks with which send B and receive B begin, and no others
+abbrev pub SymbolsBCall : ℕ → ℕ → List ℕ → Needed → Type 0
+SymbolsBCall mode size scheme r = r ≡ ofChecked (planned mode size scheme passes) (symbolsFor mode size scheme)

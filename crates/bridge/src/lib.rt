@@ -1,29 +1,16 @@
-// The calls of the house as C functions, for programs in other languages to link. A slice is passed as a pointer and then a length:
-//
-//   struct Answer { uint32_t number, mended; uint64_t place; };
-//   struct ReceivedAnswer { uint32_t number; uint16_t mended, protected; uint64_t place; };
-//
-//   struct Answer ortkaveq_encode(uint8_t code, const uint8_t *word, size_t word_length, uint8_t *out, size_t out_length);
-//   struct Answer ortkaveq_decode(uint8_t code, const uint8_t *word, size_t word_length, uint8_t *out, size_t out_length);
-//   struct Answer ortkaveq_send_a(uint8_t mode, const uint8_t *frame, size_t frame_length,
-//                                 int16_t *i, size_t i_length, int16_t *q, size_t q_length);
-//   struct ReceivedAnswer ortkaveq_receive_a(uint8_t mode, const int16_t *i, size_t i_length, const int16_t *q, size_t q_length,
-//                                            uint8_t *area, size_t area_length);
-//   struct Answer ortkaveq_send_b(uint8_t mode, const uint8_t *frame, size_t frame_length, const uint8_t *scheme, size_t scheme_length,
-//                                 int16_t *i, size_t i_length, int16_t *q, size_t q_length);
-//   struct Answer ortkaveq_receive_b(uint8_t mode, size_t size, const uint8_t *scheme, size_t scheme_length,
-//                                    const int16_t *i, size_t i_length, const int16_t *q, size_t q_length, uint8_t *area, size_t area_length);
-//
-// What a caller in C owes: each pointer leads to that many elements, is aligned for them and is not null, where the length is 0 too; what is
-// written overlaps nothing else that is passed, and nothing else touches any of them meanwhile.
+// The calls of the house as C functions, for programs in other languages to link: use/c/ortkaveq.h declares them for C and C++, and says what a caller owes.
+// A slice is passed as a pointer and then a length.
 //
 //   words      what encode and decode answered, as a caller in C reads it
 //   payloads   what sending and receiving a payload answered
 ghost use mathlib.Core.Path.{_≡_};
-ghost use Rattle.bridge.specs.Calls.{EncodeCall, DecodeCall, SendACall, ReceiveACall, SendBCall, ReceiveBCall};
+ghost use Rattle.bridge.specs.Calls.{EncodeCall, DecodeCall, SendACall, ReceiveACall, SendBCall, ReceiveBCall, SymbolsBCall};
 
 mod payloads;
 mod words;
+
+use payload_b::plan;
+use payload_b::plan::Verdict;
 
 // Document 01's number, 0 for success, its place, and the count of bits mended, 0 where the call has none.
 #[repr(C)]
@@ -39,6 +26,14 @@ pub struct ReceivedAnswer {
     pub number: u32,
     pub mended: u16,
     pub protected: u16,
+    pub place: u64,
+}
+
+// Document 01's number, 0 for success, its place, and the OFDM symbols that a frame needs, 0 in a refusal.
+#[repr(C)]
+pub struct Needed {
+    pub number: u32,
+    pub symbols: u32,
     pub place: u64,
 }
 
@@ -106,6 +101,40 @@ pub extern "C" fn ortkaveq_receive_b(
     ensures { λ r. ⌜ ReceiveBCall mode size (now (scheme .entry)) (now (i .entry)) (now (q .entry)) (now (area .entry)) r (now (area .exit)) ⌝ }
 {
     payloads::of_received_b(receiver_b::receive_b(mode, size, scheme, i, q, area))
+}
+
+// How many OFDM symbols a frame of Payload B needs, of so many bytes, by a scheme: send and receive B ask for 256 elements of I and of Q for each.
+#[no_mangle]
+pub extern "C" fn ortkaveq_symbols_b(mode: u8, size: usize, scheme: &[u8]) -> Needed
+    ensures { λ r. ⌜ SymbolsBCall mode size (now (scheme .entry)) r ⌝ }
+{
+    let verdict = plan::judged(mode, size, scheme);
+    match verdict {
+        Verdict::Passes(symbols) => so_many(symbols as u32),
+        Verdict::Fails(why) => none_needed(payloads::refused(why)),
+    }
+}
+
+// So many OFDM symbols.
+fn so_many(symbols: u32) -> Needed
+    ensures { λ r. ⌜ r ≡ record { number = 0; symbols = symbols; place = 0 } ⌝ }
+{
+    Needed {
+        number: 0,
+        symbols,
+        place: 0,
+    }
+}
+
+// No OFDM symbols, for this reason.
+fn none_needed(a: Answer) -> Needed
+    ensures { λ r. ⌜ r ≡ record { number = a .number; symbols = 0; place = a .place } ⌝ }
+{
+    Needed {
+        number: a.number,
+        symbols: 0,
+        place: a.place,
+    }
 }
 
 // Success, with this count.

@@ -72,7 +72,7 @@ fn uncounted(a: Answer) -> ReceivedAnswer
 }
 
 // The number and place of a reason.
-fn refused(why: Refusal) -> Answer
+pub(crate) fn refused(why: Refusal) -> Answer
     ensures { λ r. ⌜ r ≡ record { number = numberOf why; mended = 0; place = placeOf why } ⌝ }
 {
     at(answers::number(why) as u32, answers::place(why) as u64)

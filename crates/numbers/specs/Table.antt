@@ -1,4 +1,4 @@
--- The numbers that document 01 marks with a star, in its order: what our definitions give, and what document 01 says.
+-- The numbers that document 01 marks with a star ("Numbers to try"), in its order: what our definitions give, and what document 01 says.
 -- Assumes nothing.
 use mathlib.Core.Path.{_≡_}
 use mathlib.Core.List.{List, [], _∷_, _++_}

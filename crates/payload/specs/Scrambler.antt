@@ -1,4 +1,4 @@
--- The scrambler (clause 6.2, and document 01's reading of Figure 2): polynomial 1 + x^14 + x^15.
+-- The scrambler (clause 6.2, and document 01's reading of Figure 2: "Scrambler and frame check"): polynomial 1 + x^14 + x^15.
 -- A register is a number of 15 binary digits, stage 15 the highest.
 -- Assumes nothing.
 use mathlib.Core.List.{List, [], _∷_}

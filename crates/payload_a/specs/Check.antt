@@ -1,4 +1,5 @@
--- The frame check (clause 7.4.2): the remainder of the message times x^32 by equation 10, register from zero, no inversion.
+-- The frame check (clause 7.4.2): the remainder of the message times x^32 by equation 10, register from zero, no inversion (document 01,
+-- "Scrambler and frame check").
 -- Assumes nothing.
 use mathlib.Core.List.{List, _++_}
 use Prim.Native.Nat.{ℕ}

@@ -1,4 +1,4 @@
--- The rules that document 01 has each table of Annex B meet: each rule is a law over any list of points or any n,
+-- The rules that document 01 ("Payload B on the wire") has each table of Annex B meet: each rule is a law over any list of points or any n,
 -- and holds of the nine tables by a test that is computed over them. Assumes nothing.
 use mathlib.Core.Path.{_≡_, refl, sym, ap, subst, _∙_}
 use mathlib.Core.Bool.{Bool, true, _||_, cond}

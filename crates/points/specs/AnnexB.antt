@@ -1,5 +1,5 @@
 -- Annex B of ITU-T J.195.2, Tables B.1 to B.9, line by line as the standard prints them: two labels and two points to a line.
--- Document 01 mends three points and the sixteen first lines of Table B.9. Each such line says at its end what is printed.
+-- Document 01 ("Payload B on the wire") mends three points and the first sixteen rows of Table B.9, 32 labels. Each such line says at its end what is printed.
 use Prim.Native.Nat.{ℕ}
 use mathlib.Core.List.{List, [], _∷_}
 use lib.IntN.{ℤ}

@@ -1,4 +1,4 @@
--- The words in which document 01's rules for the tables of Annex B are stated (proofs/Rules.antt).
+-- The words in which document 01's rules for the tables of Annex B ("Payload B on the wire") are stated (proofs/Rules.antt).
 use Prim.Native.Nat.{ℕ, _+_, _*_, max}
 use mathlib.Core.Bool.{Bool, true, cond, _&&_}
 use mathlib.Core.List.{List, [], _∷_, _++_, map}

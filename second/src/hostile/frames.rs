@@ -61,8 +61,12 @@ pub fn send(rng: &mut Rng) -> Request {
 }
 
 pub fn receive(rng: &mut Rng) -> Request {
-    let faults = Faults::aim(rng, &[1, 2, 3, 5, 6, 7, 8, 9]);
-    let frame = any_frame(rng, false);
+    // A quarter are short frames that have no fault but stray points, so that these decide the answer often.
+    let (faults, frame) = if rng.once_in(4) {
+        (Faults(vec![8]), short_frame(rng))
+    } else {
+        (Faults::aim(rng, &[1, 2, 3, 5, 6, 7, 8, 9]), any_frame(rng, false))
+    };
     let sent = damaged(rng, &faults, &frame);
     let mut grid = Grid::new(&mapped(&sent, &frame.scheme), Carried::Scheme(&frame.scheme));
     if rng.once_in(12) {
@@ -105,6 +109,16 @@ fn any_frame(rng: &mut Rng, low: bool) -> Frame {
     let blocks = any_blocks(rng, &frame);
     frame.bytes = bytes_of_a_frame(rng, blocks * BLOCK_BYTES[frame.mode]);
     frame
+}
+
+/// A frame of at most three symbols.
+fn short_frame(rng: &mut Rng) -> Frame {
+    loop {
+        let frame = any_frame(rng, false);
+        if frame.plan().symbols <= 3 {
+            return frame;
+        }
+    }
 }
 
 /// A frame that is sent as every label of a constellation in turn.
@@ -168,7 +182,7 @@ fn told_scheme(rng: &mut Rng, faults: &Faults, mut scheme: Vec<u8>) -> Vec<u8> {
 /// many, up to the most there can be.
 fn any_blocks(rng: &mut Rng, frame: &Frame) -> usize {
     let most = frame.blocks_of(SYMBOLS);
-    if rng.once_in(40) {
+    if rng.once_in(60) {
         return if rng.once_in(2) { most } else { rng.between(1, most) };
     }
     let up_to_the_end = frame.blocks_of(rng.between(1, 3));

@@ -1,10 +1,10 @@
 //! What goes wrong in a grid of points: filled sub-carriers, strays, and legal points that are not those sent.
 
-use super::place;
-use crate::grid::{carriers, AVAILABLE, CARRIERS};
-use crate::points::{constellation, Point};
+use super::{place, strays};
+use crate::grid::{self, carriers, AVAILABLE, CARRIERS};
+use crate::points::Point;
 use crate::rng::Rng;
-use crate::{dqpsk, grid};
+use crate::stray::Legal;
 
 /// What the sub-carriers carry: DQPSK (Payload A), or a scheme (Payload B).
 pub enum Carried<'a> {
@@ -13,19 +13,11 @@ pub enum Carried<'a> {
 }
 
 impl Carried<'_> {
-    /// Whether a point is legal for s(number + 1).
-    fn is_legal(&self, number: usize, point: Point) -> bool {
+    /// What is legal for s(number + 1).
+    fn legal(&self, number: usize) -> Legal {
         match self {
-            Carried::Dqpsk => dqpsk::is_legal(point),
-            Carried::Scheme(scheme) => constellation(scheme[number]).expect("2 to 10").label(point).is_some(),
-        }
-    }
-
-    /// Any legal point of s(number + 1).
-    fn any_legal(&self, rng: &mut Rng, number: usize) -> Point {
-        match self {
-            Carried::Dqpsk => rng.pick(&[(1, 0), (0, 1), (-1, 0), (0, -1)]),
-            Carried::Scheme(scheme) => rng.pick(constellation(scheme[number]).expect("2 to 10").points()),
+            Carried::Dqpsk => Legal::Dqpsk,
+            Carried::Scheme(scheme) => Legal::Qam(scheme[number]),
         }
     }
 }
@@ -66,14 +58,9 @@ impl Grid<'_> {
     pub fn stray(&mut self, rng: &mut Rng) {
         for _ in 0..rng.pick(&[1, 1, 1, 2, 3]) {
             let (index, number) = self.carrier(rng);
-            let near = (self.i[index], self.q[index]);
-            loop {
-                let point = strange(rng, near);
-                if !self.carried.is_legal(number, point) {
-                    self.set(index, point);
-                    break;
-                }
-            }
+            let stood = (self.i[index], self.q[index]);
+            let point = strays::stray(rng, self.carried.legal(number), stood);
+            self.set(index, point);
         }
     }
 
@@ -81,7 +68,7 @@ impl Grid<'_> {
     pub fn wander(&mut self, rng: &mut Rng, count: usize) {
         for _ in 0..count {
             let (index, number) = self.carrier(rng);
-            let point = self.carried.any_legal(rng, number);
+            let point = rng.pick(self.carried.legal(number).points());
             self.set(index, point);
         }
     }
@@ -91,27 +78,6 @@ impl Grid<'_> {
         let any = rng.below(AVAILABLE);
         let number = rng.pick(&[0, 104, 105, 209, any, any, any, any]);
         (CARRIERS * place(rng, self.symbols) + carriers()[number], number)
-    }
-}
-
-/// A point that is seldom legal: off by a little, off by a power of two, of any constellation, or far away.
-fn strange(rng: &mut Rng, near: Point) -> Point {
-    let (i, q) = near;
-    let power = 1i16.wrapping_shl(rng.between(5, 15) as u32);
-    let step = rng.pick(&[1, -1, 1, -1, 2, -2, 62, -62, power, power, power.wrapping_neg()]);
-    let small = |rng: &mut Rng| rng.between(0, 80) as i16 - 40;
-    match rng.below(12) {
-        0..=2 => (i.wrapping_add(step), q),
-        3..=5 => (i, q.wrapping_add(step)),
-        6 => rng.pick(&[(0, 0), (q, i), (i, 0), (0, q), (i, 0), (i.wrapping_add(2), q.wrapping_add(2))]),
-        7 => (small(rng), small(rng)),
-        8 => (rng.level(), rng.level()),
-        9 => rng.pick(&[(i16::MIN, q), (i, i16::MAX), (i16::MAX, i16::MIN), (i, i16::MIN), (i16::MAX, q)]),
-        10 => {
-            let bits = rng.between(2, 10) as u8;
-            rng.pick(constellation(bits).expect("2 to 10").points())
-        }
-        _ => (small(rng), q),
     }
 }
 

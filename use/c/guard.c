@@ -1,0 +1,330 @@
+/*
+ * Every call, accepted and with each refusal, over lists that end at a page which cannot be touched, and once more over lists that begin behind one.
+ * Prints how many calls were made, or the line and what was expected there.
+ */
+#include "guarded.h"
+
+#include <signal.h>
+
+enum {
+    MORE = 7,                 /* elements of a longer list beyond those that are enough */
+    POINTS = ORTKAVEQ_SCHEME, /* of an OFDM symbol */
+    LEVELS = ORTKAVEQ_A_LEVELS
+};
+
+/* Where the point that is sent s-th stands in I and Q, s from 1. */
+static size_t index_of(size_t s)
+{
+    size_t symbol = (s - 1) / POINTS, within = (s - 1) % POINTS + 1;
+    return symbol * ORTKAVEQ_SYMBOL + (within <= 105 ? within + 150 : within - 105);
+}
+
+/* ---- Words */
+
+/* A word of another length, no room, and elements that are no bits, from the last to the first. */
+static void refused_words(enum job job, size_t code, size_t length, size_t n)
+{
+    word.length = length, out.length = n;
+    EACH(wrong, 0, length - 1, length + 1)
+        REFUSE(2, 0, with(&word, *wrong, job, code, n));
+    EACH(less, 0, n - 1)
+        REFUSE(3, 0, with(&out, *less, job, code, n));
+    EACH(place, length - 1, length / 2, 0) {
+        word.bytes[*place] = *place > 0 ? 2 : 255;
+        REFUSE(4, *place, run(job, code, n));
+    }
+}
+
+/* Refused as uncorrectable, or another codeword. */
+static bool another(struct told answer, const struct list *codeword, size_t n)
+{
+    return answer.place == 0 && (answer.number == 9 ? answer.count == 0 : answer.number == 0 && !same(&out, codeword, n));
+}
+
+static void words(size_t code, size_t n, size_t k, size_t t)
+{
+    static struct list codeword;
+    fill(&word, k, 2);
+    ACCEPT(0, with(&out, n + MORE, ENCODE, code, n));
+    ACCEPT(0, with(&out, n, ENCODE, code, n));
+    HOLD(same(&word, &out, k));
+    codeword = out;
+    refused_words(ENCODE, code, k, n);
+    EACH(hits, 0, 1, t, t + 1) {
+        memcpy(word.bytes, codeword.bytes, n);
+        word.length = n;
+        for (size_t hit = 0; hit < *hits; hit++)
+            word.bytes[hit * (n / (t + 1))] ^= 1;
+        if (*hits > t)
+            HOLD(another(with(&out, n, DECODE, code, n), &codeword, n));
+        else {
+            ACCEPT(*hits, with(&out, n + *hits, DECODE, code, n));
+            HOLD(same(&out, &codeword, n));
+        }
+    }
+    refused_words(DECODE, code, n, n);
+}
+
+/* ---- What both payloads have */
+
+/* Sends a frame, and leaves room to receive it. */
+static void sent(enum job send, size_t mode, size_t size, size_t levels)
+{
+    fill(&frame, size, 256);
+    i.length = q.length = levels, area.length = size + MORE;
+    ACCEPT(0, run(send, mode, levels));
+}
+
+/* Lists of points that are too short. */
+static void short_points(enum job job, size_t mode, size_t size, size_t levels)
+{
+    EACH(less, 0, levels - 1) {
+        REFUSE(3, 0, with(&i, *less, job, mode, size));
+        REFUSE(3, 0, with(&q, *less, job, mode, size));
+    }
+}
+
+/* Points of the first two OFDM symbols that are none, from the last sent to the first, and then sub-carriers that are not empty, from the last to the first. */
+static void spoilt(enum job job, size_t mode, size_t size)
+{
+    EACH(at, 361, 257, 511, 407, 105, 1, 255, 151) {
+        i.levels[*at] = *at % 4 == 3 ? 0 : INT16_MIN, q.levels[*at] = 0;
+        REFUSE(8, *at, run(job, mode, size));
+    }
+    EACH(at, 406, 362, 256, 150, 106, 0) {
+        (*at % 4 == 2 ? &i : &q)->levels[*at] = -1;
+        REFUSE(7, *at, run(job, mode, size));
+    }
+}
+
+/* A frame there and back in room enough and in more, into short lists and from short and spoilt ones. */
+static void there_and_back(enum job send, enum job receive, size_t mode, size_t size, size_t levels)
+{
+    fill(&frame, size, 256);
+    EACH(more, MORE, 0) {
+        i.length = levels + *more, q.length = levels + 2 * *more, area.length = size + *more;
+        ACCEPT(0, run(send, mode, levels));
+        ACCEPT(0, run(receive, mode, size));
+        HOLD(same(&area, &frame, size));
+    }
+    short_points(receive, mode, size, levels);
+    EACH(less, 0, size - 1)
+        REFUSE(3, 0, with(&area, *less, receive, mode, size));
+    if (levels > ORTKAVEQ_SYMBOL)
+        spoilt(receive, mode, size);
+    short_points(send, mode, levels, levels);
+}
+
+/* ---- Payload A */
+
+/* Quarter turns from (1,0), which stands before the first point, to the point sent s-th. */
+static int phase(size_t s)
+{
+    int level = s == 0 ? 1 : i.levels[index_of(s)];
+    return level != 0 ? 1 - level : 2 - q.levels[index_of(s)];
+}
+
+/* Flips one of the 840 bits that are sent: its point turns, and all behind it. */
+static void flip_a(size_t bit)
+{
+    static const int turn[] = {0, 1, 3, 2}; /* quarter turns of each dibit; and the dibit of so many */
+    size_t s = bit / 2 + 1;
+    int old = (phase(s) - phase(s - 1)) & 3, more = turn[turn[old] ^ (bit % 2 ? 1 : 2)] - old;
+    for (; s <= 2 * POINTS; s++) {
+        int next = (phase(s) + more) & 3;
+        i.levels[index_of(s)] = (int16_t)(next % 2 ? 0 : 1 - next);
+        q.levels[index_of(s)] = (int16_t)(next % 2 ? 2 - next : 0);
+    }
+}
+
+/* Where the n-th of the 392 bits of a half stands among the 840: in the segment behind field 1, or in that behind field 2. */
+static size_t in_half(size_t half, size_t n) { return 420 * half + (n < 196 ? 10 : 20) + n; }
+
+static void payload_a(size_t mode, size_t size)
+{
+    there_and_back(SEND_A, RECEIVE_A, mode, size, LEVELS);
+    EACH(wrong, 0, size - 1, size + 1)
+        REFUSE(2, 0, with(&frame, *wrong, SEND_A, mode, LEVELS));
+}
+
+/* Hits in protected fields are counted, a hit in a segment breaks the check. */
+static void uncoded_a(size_t size)
+{
+    sent(SEND_A, 0, size, LEVELS);
+    EACH(bit, 0, 206, 419, 420, 839)
+        flip_a(*bit);
+    EXPECT(0, 0, 0, 5, run(RECEIVE_A, 0, size));
+    HOLD(same(&area, &frame, size));
+    flip_a(in_half(1, 391));
+    REFUSE(10, 0, run(RECEIVE_A, 0, size));
+}
+
+/* t hits in each half are mended, one more is not; and with another codeword added to the first half the check is wrong. */
+static void coded_a(size_t size)
+{
+    sent(SEND_A, 1, size, LEVELS);
+    for (size_t hit = 0; hit < ORTKAVEQ_T3; hit++)
+        flip_a(in_half(0, 24 * hit + 1)), flip_a(in_half(1, 23 * hit));
+    flip_a(415);
+    EXPECT(0, 0, 2 * ORTKAVEQ_T3, 1, run(RECEIVE_A, 1, size));
+    HOLD(same(&area, &frame, size));
+    EACH(half, 1, 0) {
+        flip_a(in_half(*half, 391));
+        REFUSE(9, *half, run(RECEIVE_A, 1, size));
+    }
+    sent(SEND_A, 1, size, LEVELS);
+    fill(&word, ORTKAVEQ_K3, 1);
+    word.bytes[100] = 1;
+    ACCEPT(0, with(&out, ORTKAVEQ_N3, ENCODE, 3, ORTKAVEQ_N3));
+    for (size_t n = 0; n < ORTKAVEQ_N3; n++)
+        if (out.bytes[n] == 1)
+            flip_a(in_half(0, n));
+    REFUSE(10, 0, run(RECEIVE_A, 1, size));
+}
+
+/* ---- Payload B */
+
+/* Bytes and bits of a block in each mode, and how many bits of it are mended; uncoded, each byte is one. */
+static const struct { size_t bytes, bits, t; } blocks[] = {
+    {1, 8, 0}, {ORTKAVEQ_B_BYTES1, ORTKAVEQ_N1, ORTKAVEQ_T1}, {ORTKAVEQ_B_BYTES2, ORTKAVEQ_N2, ORTKAVEQ_T2},
+};
+
+/* A scheme of so many bits for every point; of 0, from 2 to 10 by turns. Answers their sum. */
+static size_t set_scheme(size_t bits)
+{
+    size_t sum = 0;
+    scheme.length = ORTKAVEQ_SCHEME;
+    for (size_t n = 0; n < ORTKAVEQ_SCHEME; n++)
+        sum += scheme.bytes[n] = (uint8_t)(bits > 0 ? bits : 2 + n % 9);
+    return sum;
+}
+
+/* Flips one of the coded bits, where every point is of two: the first negates I, the second Q. */
+static void flip_b(size_t bit)
+{
+    int16_t *level = (bit % 2 ? &q : &i)->levels + index_of(bit / 2 + 1);
+    *level = (int16_t)-*level;
+}
+
+/* Three blocks with t hits each are mended; with one hit more in a block the frame's bytes are zero. */
+static void hits_b(size_t mode)
+{
+    size_t size = 3 * blocks[mode].bytes, t = blocks[mode].t;
+    set_scheme(2);
+    sent(SEND_B, mode, size, 4 * ORTKAVEQ_SYMBOL);
+    for (size_t hit = 0; hit < 3 * t; hit++)
+        flip_b(blocks[mode].bits * (hit / t) + 19 * (hit % t));
+    ACCEPT(3 * t, run(RECEIVE_B, mode, size));
+    HOLD(same(&area, &frame, size));
+    EACH(block, 2, 1, 0) {
+        flip_b(blocks[mode].bits * *block + 400);
+        REFUSE(9, *block, run(RECEIVE_B, mode, size));
+    }
+}
+
+/* The same refusal by all three calls. */
+#define REFUSE_B(number, place, mode, size) \
+    (REFUSE(number, place, run(SYMBOLS_B, mode, size)), REFUSE(number, place, with(&frame, size, SEND_B, mode, 0)), \
+     REFUSE(number, place, run(RECEIVE_B, mode, size)))
+
+/* Schemes, and then sizes too, that are wrong, with lists of this length. */
+static void refused_b(size_t length)
+{
+    i.length = q.length = area.length = length;
+    set_scheme(2);
+    EACH(place, 209, 100, 0)
+        EACH(entry, 1, 11) {
+            scheme.bytes[*place] = (uint8_t)*entry;
+            REFUSE_B(5, *place, 2, ORTKAVEQ_B_BYTES2);
+        }
+    EACH(entries, 209, 211, 0) {
+        scheme.length = *entries;
+        REFUSE_B(5, ORTKAVEQ_SCHEME, 2, ORTKAVEQ_B_BYTES2);
+    }
+    EACH(mode, 1, 2)
+        EACH(wrong, 0, blocks[*mode].bytes - 1, blocks[*mode].bytes + 1)
+            REFUSE_B(2, 0, *mode, *wrong);
+    REFUSE_B(2, 0, 0, 0);
+}
+
+/* A frame of so many blocks; the OFDM symbols that it needs. */
+static void payload_b(size_t mode, size_t count, size_t bits)
+{
+    size_t sum = set_scheme(bits), symbols = (count * blocks[mode].bits + sum - 1) / sum;
+    ACCEPT(symbols, run(SYMBOLS_B, mode, count * blocks[mode].bytes));
+    there_and_back(SEND_B, RECEIVE_B, mode, count * blocks[mode].bytes, symbols * ORTKAVEQ_SYMBOL);
+}
+
+/* The largest frame of a mode, and one byte or block more. */
+static void largest_b(size_t mode, size_t bits, size_t size)
+{
+    size_t block = blocks[mode].bytes;
+    set_scheme(bits);
+    ACCEPT(ORTKAVEQ_MOST_SYMBOLS, run(SYMBOLS_B, mode, size));
+    payload_b(mode, size / block, bits);
+    REFUSE_B(6, 0, mode, size + block);
+}
+
+/* Document 01's counts, and sizes that no frame has. */
+static void counts_b(void)
+{
+    static const size_t sizes[][3] = {{13440, 12449, 11502}, {67200, 62422, 57564}};
+    for (size_t mode = 0; mode <= 2; mode++)
+        largest_b(mode, ORTKAVEQ_LEAST_BITS, sizes[0][mode]), largest_b(mode, ORTKAVEQ_MOST_BITS, sizes[1][mode]);
+    REFUSE(6, 0, run(SYMBOLS_B, 0, SIZE_MAX));
+    REFUSE(6, 0, run(RECEIVE_B, 0, SIZE_MAX));
+    set_scheme(2);
+    ACCEPT(2, run(SYMBOLS_B, 2, ORTKAVEQ_B_BYTES2));
+}
+
+/* ---- All */
+
+/* Codes and modes that there are not, with lists of this length. */
+static void unknown(size_t length)
+{
+    word.length = out.length = frame.length = scheme.length = area.length = i.length = q.length = length;
+    EACH(code, 0, 4, 255)
+        EACH(job, ENCODE, DECODE)
+            REFUSE(1, 0, run(*job, *code, length));
+    EACH(mode, 2, 3, 255)
+        EACH(job, SEND_A, RECEIVE_A)
+            REFUSE(1, 0, run(*job, *mode, length));
+    EACH(mode, 3, 4, 255)
+        EACH(job, SYMBOLS_B, SEND_B, RECEIVE_B)
+            REFUSE(1, 0, run(*job, *mode, length));
+}
+
+static void everything(void)
+{
+    words(1, ORTKAVEQ_N1, ORTKAVEQ_K1, ORTKAVEQ_T1);
+    words(2, ORTKAVEQ_N2, ORTKAVEQ_K2, ORTKAVEQ_T2);
+    words(3, ORTKAVEQ_N3, ORTKAVEQ_K3, ORTKAVEQ_T3);
+    payload_a(0, ORTKAVEQ_A_BYTES0);
+    payload_a(1, ORTKAVEQ_A_BYTES1);
+    uncoded_a(ORTKAVEQ_A_BYTES0);
+    coded_a(ORTKAVEQ_A_BYTES1);
+    for (size_t mode = 0; mode <= 2; mode++)
+        EACH(bits, 2, 10, 0)
+            EACH(count, 1, 2, 60, 201)
+                payload_b(mode, *count, *bits);
+    hits_b(1);
+    hits_b(2);
+    EACH(length, 0, 600)
+        refused_b(*length), unknown(*length);
+    counts_b();
+}
+
+/* Where a list is left, or one is written that is only read, the machine stops the call. */
+static void touched(int signal) { FAIL("no touch beyond a list, and no write to one that is only read (signal %d)", signal); }
+
+int main(void)
+{
+    signal(SIGSEGV, touched);
+    signal(SIGBUS, touched);
+    behind = true;
+    everything();
+    behind = false;
+    everything();
+    printf("guard: %ld calls\n", calls);
+    return EXIT_SUCCESS;
+}

@@ -1,0 +1,173 @@
+/*
+ * For guard.c: lists between pages that cannot be touched, and calls made with them. A list that a call only reads cannot be written. A list that it may write
+ * is poisoned before; what the call is not to write has to be as it was, in the list and around it.
+ */
+#define _DEFAULT_SOURCE /* for MAP_ANONYMOUS */
+#include "ortkaveq.h"
+
+#include <stdbool.h>
+#include <stdio.h>
+#include <stdlib.h>
+#include <string.h>
+#include <sys/mman.h>
+#include <unistd.h>
+
+enum {
+    POISON = 0xA5,                            /* in lent lists before a call */
+    CANARY = 0x5A,                            /* around every list */
+    MOST_ELEMENTS = ORTKAVEQ_MOST_BYTES + 100 /* of any list here */
+};
+
+/* A list: what it holds before a call and then after it, and where it stands meanwhile. */
+struct list {
+    size_t length, width, room;
+    uint8_t *map, *at;
+    union { uint8_t bytes[MOST_ELEMENTS * sizeof(int16_t)]; int16_t levels[MOST_ELEMENTS]; };
+};
+
+static struct list word = {.width = 1}, out = {.width = 1}, frame = {.width = 1}, scheme = {.width = 1}, area = {.width = 1};
+static struct list i = {.width = sizeof(int16_t)}, q = {.width = sizeof(int16_t)};
+
+enum job { ENCODE, DECODE, SEND_A, RECEIVE_A, SYMBOLS_B, SEND_B, RECEIVE_B };
+
+/* The lists of each job, and how many of them, the first ones, it only reads. */
+static const struct { struct list *lists[5]; int read; } jobs[] = {
+    [ENCODE] = {{&word, &out}, 1},
+    [DECODE] = {{&word, &out}, 1},
+    [SEND_A] = {{&frame, &i, &q}, 1},
+    [RECEIVE_A] = {{&i, &q, &area}, 2},
+    [SYMBOLS_B] = {{&scheme}, 1},
+    [SEND_B] = {{&frame, &scheme, &i, &q}, 2},
+    [RECEIVE_B] = {{&scheme, &i, &q, &area}, 3},
+};
+
+/* An answer; the count is of bits mended, or of OFDM symbols. */
+struct told { size_t number, place, count, fields; };
+
+static bool behind; /* whether lists end at the page that cannot be touched, or begin at it */
+static int line;    /* of guard.c, where something is expected just now */
+static long calls;
+
+#define FAIL(...) (printf("guard.c:%d: expected ", line), printf(__VA_ARGS__), puts(behind ? ", where lists end" : ", where lists begin"), exit(EXIT_FAILURE))
+
+/* ---- Memory */
+
+static size_t page(void) { return (size_t)sysconf(_SC_PAGESIZE); }
+
+static void protect(uint8_t *at, size_t bytes, int access)
+{
+    if (bytes > 0 && mprotect(at, bytes, access) != 0)
+        FAIL("memory for a list");
+}
+
+/* Puts a list into pages of its own, between two that cannot be touched. An empty one has no pages: it stands where these two meet. */
+static void place(struct list *l, bool read)
+{
+    size_t bytes = l->length * l->width;
+    l->room = (bytes + page() - 1) / page() * page();
+    l->map = mmap(NULL, l->room + 2 * page(), PROT_NONE, MAP_PRIVATE | MAP_ANONYMOUS, -1, 0);
+    if (l->map == MAP_FAILED)
+        FAIL("room for a list");
+    uint8_t *first = l->map + page();
+    protect(first, l->room, PROT_READ | PROT_WRITE);
+    memset(first, CANARY, l->room);
+    l->at = behind ? first + l->room - bytes : first;
+    memcpy(l->at, l->bytes, bytes);
+    protect(first, l->room, read ? PROT_READ : PROT_READ | PROT_WRITE);
+}
+
+/* Takes back what a list holds. Around it nothing has changed. */
+static void take(struct list *l)
+{
+    size_t bytes = l->length * l->width;
+    for (uint8_t *p = l->map + page(); p < l->map + page() + l->room; p++)
+        if ((p < l->at || p >= l->at + bytes) && *p != CANARY)
+            FAIL("nothing written outside of a list of %zu bytes, but byte %ld was", bytes, (long)(p - l->at));
+    memcpy(l->bytes, l->at, bytes);
+    munmap(l->map, l->room + 2 * page());
+}
+
+static void all(const struct list *l, size_t from, size_t to, uint8_t value)
+{
+    for (size_t n = from * l->width; n < to * l->width; n++)
+        if (l->bytes[n] != value)
+            FAIL("%u in byte %zu of a lent list of %zu elements", value, n, l->length);
+}
+
+/* ---- Calls */
+
+static struct told told(struct ortkaveq_answer a) { return (struct told){a.number, a.place, a.mended, 0}; }
+static struct told told_a(struct ortkaveq_answer_a a) { return (struct told){a.number, a.place, a.mended, a.fields}; }
+static struct told told_symbols(struct ortkaveq_answer_symbols a) { return (struct told){a.number, a.place, a.symbols, 0}; }
+
+#define LIST(l) (void *)l.at, l.length
+static struct told call(enum job job, uint8_t mode, size_t size)
+{
+    switch (job) {
+    case ENCODE: return told(ortkaveq_encode(mode, LIST(word), LIST(out)));
+    case DECODE: return told(ortkaveq_decode(mode, LIST(word), LIST(out)));
+    case SEND_A: return told(ortkaveq_send_a(mode, LIST(frame), LIST(i), LIST(q)));
+    case RECEIVE_A: return told_a(ortkaveq_receive_a(mode, LIST(i), LIST(q), LIST(area)));
+    case SYMBOLS_B: return told_symbols(ortkaveq_symbols_b(mode, size, LIST(scheme)));
+    case SEND_B: return told(ortkaveq_send_b(mode, LIST(frame), LIST(scheme), LIST(i), LIST(q)));
+    default: return told(ortkaveq_receive_b(mode, size, LIST(scheme), LIST(i), LIST(q), LIST(area)));
+    }
+}
+
+/* Makes a call, by a code or mode. Size is how many elements of each lent list it writes if it is accepted; for symbols B, without any, the frame's bytes. */
+static struct told run(enum job job, size_t mode, size_t size)
+{
+    struct list *const *lists = jobs[job].lists, *const *lent = lists + jobs[job].read, *const *l;
+    for (l = lent; *l; l++)
+        memset((*l)->bytes, POISON, sizeof (*l)->bytes);
+    for (l = lists; *l; l++)
+        place(*l, l < lent);
+    struct told answer = call(job, (uint8_t)mode, size);
+    calls++;
+    for (l = lists; *l; l++)
+        take(*l);
+    bool cleared = job == RECEIVE_B && answer.number == ORTKAVEQ_UNCORRECTABLE;
+    if (cleared)
+        all(&area, 0, size, 0);
+    for (l = lent; *l; l++)
+        all(*l, answer.number == 0 || cleared ? size : 0, (*l)->length, POISON);
+    return answer;
+}
+
+/* The same with one of its lists of another length. */
+static struct told with(struct list *l, size_t length, enum job job, size_t mode, size_t size)
+{
+    size_t before = l->length;
+    l->length = length;
+    struct told answer = run(job, mode, size);
+    l->length = before;
+    return answer;
+}
+
+static void expect(struct told e, struct told t)
+{
+    if (t.number != e.number || t.place != e.place || t.count != e.count || t.fields != e.fields)
+        FAIL("number %zu, place %zu, count %zu, fields %zu; came %zu, %zu, %zu, %zu", e.number, e.place, e.count, e.fields, t.number, t.place,
+             t.count, t.fields);
+}
+
+#define EXPECT(number, place, count, fields, call) (line = __LINE__, expect((struct told){number, place, count, fields}, call))
+#define ACCEPT(count, call) EXPECT(0, 0, count, 0, call)
+#define REFUSE(number, place, call) EXPECT(number, place, 0, 0, call)
+#define HOLD(condition) (line = __LINE__, (condition) ? (void)0 : FAIL("%s", #condition))
+#define EACH(name, ...) for (size_t *name = (size_t[]){__VA_ARGS__, SIZE_MAX}; *name != SIZE_MAX; name++)
+
+/* ---- Contents */
+
+/* Elements drawn from 0 up to below some number. */
+static void fill(struct list *l, size_t length, unsigned below)
+{
+    static uint32_t state = 2026;
+    l->length = length;
+    for (size_t n = 0; n < length; n++) {
+        state = state * 1664525 + 1013904223;
+        l->bytes[n] = (uint8_t)((state >> 16) % below);
+    }
+}
+
+static bool same(const struct list *a, const struct list *b, size_t length) { return memcmp(a->bytes, b->bytes, length) == 0; }

@@ -1,0 +1,165 @@
+/*
+ * Ortkaveq: payload coding for HiNoC (ITU-T J.195.2), as seven calls for C11 and C++11.
+ *
+ * docs/SCOPE.md says what is asked of each job, docs/READING.md what is proved of it. The code behind these declarations is proved; that the declarations
+ * are those of the code is not proved but run (use/c/check).
+ *
+ * A list is passed as a pointer and then its length, in elements and not in bytes.
+ *
+ * What a caller owes, and no call can see for itself:
+ *   - a pointer leads to as many elements as its length says, is aligned for them, and is not null, not even where the length is 0;
+ *   - a list that a call may write overlaps no other list of that call;
+ *   - while a call runs nothing else writes to its lists, or reads those that it may write.
+ * Everything else may be wrong: any number, length or content is answered, with 0 or with the number of a refusal.
+ *
+ * No call keeps anything: there is no state, nothing is allocated, and any thread may call at any time. Stack: less than 16 KiB a call (docs/SPEED.md).
+ *
+ * Machines of 64 bits only, x86-64 and Arm. On a machine of 32 bits an answer would not come back as it is declared here.
+ */
+#ifndef ORTKAVEQ_H
+#define ORTKAVEQ_H
+
+#include <assert.h>
+#include <stddef.h>
+#include <stdint.h>
+
+#ifdef __cplusplus
+extern "C" {
+#endif
+
+/* ---- Numbers: why a call refused. Checks run in the order 1, 2, 5, 6, 3, 4, 7, 8, 9, 10, each where it applies; the first that fails gives the number. */
+
+enum ortkaveq_number {
+    ORTKAVEQ_ACCEPTED = 0,         /* Accepted. Place 0. */
+    ORTKAVEQ_UNKNOWN = 1,          /* There is no such coding mode or code. Place 0. */
+    ORTKAVEQ_WRONG_LENGTH = 2,     /* A frame or word of a wrong length. Place 0. */
+    ORTKAVEQ_NO_ROOM = 3,          /* A list of points or a list for output is too short. Place 0. */
+    ORTKAVEQ_NOT_A_BIT = 4,        /* An element of a word is neither 0 nor 1. Place: the first such element. */
+    ORTKAVEQ_BAD_SCHEME = 5,       /* A scheme not of 210 entries (place 210), or an entry outside 2 to 10. Place: the first such entry. */
+    ORTKAVEQ_TOO_MANY_SYMBOLS = 6, /* More than 256 OFDM symbols would be needed. Place 0. */
+    ORTKAVEQ_FILLED = 7,           /* An unavailable sub-carrier is not (0,0). Place: its index in I and Q, the least such one. */
+    ORTKAVEQ_STRAY_POINT = 8,      /* A point that is none of its sub-carrier's constellation. Place: its index in I and Q, the first in the order sent. */
+    ORTKAVEQ_UNCORRECTABLE = 9,    /* No codeword lies near enough. Place: the first such block; 0 for a single word. */
+    ORTKAVEQ_WRONG_CHECK = 10      /* Payload A: the frame check is wrong. Place 0. */
+};
+
+/* ---- Sizes */
+
+enum {
+    /* The three codes: n bits of a codeword, k of them information, up to t mended. */
+    ORTKAVEQ_N1 = 508, ORTKAVEQ_K1 = 472, ORTKAVEQ_T1 = 4,
+    ORTKAVEQ_N2 = 504, ORTKAVEQ_K2 = 432, ORTKAVEQ_T2 = 8,
+    ORTKAVEQ_N3 = 392, ORTKAVEQ_K3 = 248, ORTKAVEQ_T3 = 16,
+
+    /* Payload A: bytes of a frame in mode 0, uncoded, and in mode 1, code 3; elements of I and of Q. */
+    ORTKAVEQ_A_BYTES0 = 94, ORTKAVEQ_A_BYTES1 = 58,
+    ORTKAVEQ_A_LEVELS = 512,
+
+    /* Payload B: in mode 1 (code 1) and mode 2 (code 2) a frame is one or more whole blocks of so many bytes; in mode 0, uncoded, one or more bytes. */
+    ORTKAVEQ_B_BYTES1 = 59, ORTKAVEQ_B_BYTES2 = 54,
+
+    /* A scheme: its entries, each the bits of a point. */
+    ORTKAVEQ_SCHEME = 210, ORTKAVEQ_LEAST_BITS = 2, ORTKAVEQ_MOST_BITS = 10,
+
+    /* An OFDM symbol: elements of I and of Q. */
+    ORTKAVEQ_SYMBOL = 256,
+
+    /* The most OFDM symbols of a frame, its elements of I and of Q then, and the most bytes of any frame (mode 0, every entry 10). */
+    ORTKAVEQ_MOST_SYMBOLS = 256, ORTKAVEQ_MOST_LEVELS = 65536, ORTKAVEQ_MOST_BYTES = 67200
+};
+
+/* ---- Answers. In a refusal every count is 0. */
+
+struct ortkaveq_answer {
+    uint32_t number; /* 0, or why the call refused: enum ortkaveq_number */
+    uint32_t mended; /* bits mended, over all blocks; 0 for encode and send */
+    uint64_t place;  /* where, as the number says */
+};
+
+struct ortkaveq_answer_a {
+    uint32_t number;
+    uint16_t mended;
+    uint16_t fields; /* how many of the 56 bits of the protected fields differ from those that are sent */
+    uint64_t place;
+};
+
+struct ortkaveq_answer_symbols {
+    uint32_t number;
+    uint32_t symbols; /* OFDM symbols needed, 1 to 256 */
+    uint64_t place;
+};
+
+static_assert(sizeof(size_t) == 8, "a machine of 64 bits");
+static_assert(sizeof(struct ortkaveq_answer) == 16 && offsetof(struct ortkaveq_answer, mended) == 4 && offsetof(struct ortkaveq_answer, place) == 8,
+              "the answer of every call but two");
+static_assert(sizeof(struct ortkaveq_answer_a) == 16 && offsetof(struct ortkaveq_answer_a, mended) == 4 && offsetof(struct ortkaveq_answer_a, fields) == 6
+                  && offsetof(struct ortkaveq_answer_a, place) == 8,
+              "the answer of ortkaveq_receive_a");
+static_assert(sizeof(struct ortkaveq_answer_symbols) == 16 && offsetof(struct ortkaveq_answer_symbols, symbols) == 4
+                  && offsetof(struct ortkaveq_answer_symbols, place) == 8,
+              "the answer of ortkaveq_symbols_b");
+
+/* ---- BCH words: lists of bits, an element each, 0 or 1 */
+
+/*
+ * Encodes a word by code 1, 2 or 3.
+ * Reads: word, k bits, exactly. Writes: the first n elements of out, the codeword.
+ * Refuses with 1, 2, 3, 4. A refusal writes nothing; elements of out beyond n are never touched.
+ */
+struct ortkaveq_answer ortkaveq_encode(uint8_t code, const uint8_t *word, size_t word_length, uint8_t *out, size_t out_length);
+
+/*
+ * Decodes a word: answers the codeword that differs from it in at most t places, and in how many it does, exactly when there is one.
+ * Reads: word, n bits, exactly. Writes: the first n elements of out, the codeword.
+ * Refuses with 1, 2, 3, 4, 9. A refusal writes nothing; elements of out beyond n are never touched.
+ */
+struct ortkaveq_answer ortkaveq_decode(uint8_t code, const uint8_t *word, size_t word_length, uint8_t *out, size_t out_length);
+
+/* ---- Payload A: modes 0 and 1, two OFDM symbols of DQPSK */
+
+/*
+ * Sends a frame.
+ * Reads: frame, 94 bytes in mode 0 and 58 in mode 1, exactly. Writes: the first 512 elements of i and of q.
+ * Refuses with 1, 2, 3. A refusal writes nothing; elements beyond the 512 are never touched.
+ */
+struct ortkaveq_answer ortkaveq_send_a(uint8_t mode, const uint8_t *frame, size_t frame_length, int16_t *i, size_t i_length, int16_t *q, size_t q_length);
+
+/*
+ * Receives a frame.
+ * Reads: the first 512 elements of i and of q. Writes: the first 94 (mode 0) or 58 (mode 1) bytes of area, the frame.
+ * Refuses with 1, 3, 7, 8, 9, 10. A refusal writes nothing; bytes of area beyond the frame are never touched.
+ */
+struct ortkaveq_answer_a ortkaveq_receive_a(uint8_t mode, const int16_t *i, size_t i_length, const int16_t *q, size_t q_length, uint8_t *area,
+                                            size_t area_length);
+
+/* ---- Payload B: modes 0, 1 and 2, up to 256 OFDM symbols, points by a scheme */
+
+/*
+ * How many OFDM symbols a frame of size bytes needs: so many times 256 elements of i and of q are sent, and asked for by the two calls below.
+ * Reads: scheme, 210 entries, exactly. Writes nothing.
+ * Refuses with 1, 2, 5, 6, as send B does.
+ */
+struct ortkaveq_answer_symbols ortkaveq_symbols_b(uint8_t mode, size_t size, const uint8_t *scheme, size_t scheme_length);
+
+/*
+ * Sends a frame.
+ * Reads: frame, all of it; scheme, 210 entries, exactly. Writes: the first 256 elements of i and of q for each OFDM symbol needed.
+ * Refuses with 1, 2, 5, 6, 3. A refusal writes nothing; elements beyond those are never touched.
+ */
+struct ortkaveq_answer ortkaveq_send_b(uint8_t mode, const uint8_t *frame, size_t frame_length, const uint8_t *scheme, size_t scheme_length, int16_t *i,
+                                       size_t i_length, int16_t *q, size_t q_length);
+
+/*
+ * Receives a frame of size bytes.
+ * Reads: scheme, 210 entries, exactly; the first 256 elements of i and of q for each OFDM symbol needed. Writes: the first size bytes of area, the frame.
+ * Refuses with 1, 2, 5, 6, 3, 7, 8, 9. A refusal writes nothing, but for 9, which leaves the first size bytes of area all zero; bytes of area beyond them are
+ * never touched.
+ */
+struct ortkaveq_answer ortkaveq_receive_b(uint8_t mode, size_t size, const uint8_t *scheme, size_t scheme_length, const int16_t *i, size_t i_length,
+                                          const int16_t *q, size_t q_length, uint8_t *area, size_t area_length);
+
+#ifdef __cplusplus
+}
+#endif
+
+#endif

@@ -1,0 +1,132 @@
+/*
+ * The trial program over ortkaveq.h: reads requests from standard input, makes the calls and writes the responses to standard output. crates/trial/src/main.rt
+ * has the format. What no response shows it holds itself, and aborts where that fails: that ortkaveq_symbols_b agrees with the jobs of Payload B, and that a
+ * job without counts has mended nothing. Integers go in and out as they lie in memory: for little-endian machines, as both of ours are.
+ */
+#include "ortkaveq.h"
+
+#include <stdbool.h>
+#include <stdio.h>
+#include <stdlib.h>
+
+/* The most elements of a list of bytes, and of a list of levels; the most lists of a job. */
+enum { MOST_BYTES = 67300, MOST_LEVELS = 65600, LISTS = 4 };
+
+/* Jobs 1 to 6: their lists, of bytes or levels, how many of them, the last ones, are lent, and how many counts the response has. */
+static const struct { const char *lists; int lent, counts; } jobs[] = {
+    {"", 0, 0}, {"bb", 1, 0}, {"bb", 1, 1}, {"bll", 2, 0}, {"llb", 1, 2}, {"bbll", 2, 0}, {"bllb", 1, 1},
+};
+
+/* A list, in memory of just its length, so that a step beyond it is one. */
+struct list { void *at; size_t length, width; };
+
+struct told { uint32_t number; uint64_t place, counts[2]; };
+
+static void hold(bool good, const char *what)
+{
+    if (good)
+        return;
+    fflush(stdout);
+    fprintf(stderr, "trial: %s\n", what);
+    abort();
+}
+
+/* A request that is cut ends the program. */
+static void get(void *to, size_t bytes)
+{
+    if (fread(to, 1, bytes, stdin) != bytes)
+        exit(EXIT_SUCCESS);
+}
+
+/* So does a list too long for its room. The pointer to an empty list is not null. */
+static struct list get_list(char kind)
+{
+    uint32_t count;
+    get(&count, sizeof count);
+    if (count > (kind == 'b' ? MOST_BYTES : MOST_LEVELS))
+        exit(EXIT_SUCCESS);
+    size_t width = kind == 'b' ? sizeof(uint8_t) : sizeof(int16_t);
+    struct list list = {malloc(count > 0 ? count * width : 1), count, width};
+    hold(list.at != NULL, "there is no memory for a list");
+    get(list.at, count * width);
+    return list;
+}
+
+static void put(const void *from, size_t bytes) { fwrite(from, 1, bytes, stdout); }
+
+static struct told told(struct ortkaveq_answer a) { return (struct told){a.number, a.place, {a.mended, 0}}; }
+
+static struct told told_a(struct ortkaveq_answer_a a) { return (struct told){a.number, a.place, {a.mended, a.fields}}; }
+
+#define LIST(n) l[n].at, l[n].length
+static struct told call(uint8_t job, uint8_t mode, size_t size, const struct list *l)
+{
+    switch (job) {
+    case 1: return told(ortkaveq_encode(mode, LIST(0), LIST(1)));
+    case 2: return told(ortkaveq_decode(mode, LIST(0), LIST(1)));
+    case 3: return told(ortkaveq_send_a(mode, LIST(0), LIST(1), LIST(2)));
+    case 4: return told_a(ortkaveq_receive_a(mode, LIST(0), LIST(1), LIST(2)));
+    case 5: return told(ortkaveq_send_b(mode, LIST(0), LIST(1), LIST(2), LIST(3)));
+    default: return told(ortkaveq_receive_b(mode, size, LIST(0), LIST(1), LIST(2), LIST(3)));
+    }
+}
+
+/* What ortkaveq_symbols_b answers for a scheme, and I and Q behind it, is what the job found: the same refusal, or the room that it asks for. */
+static void hold_symbols(struct told job, uint8_t mode, size_t size, const struct list *l, size_t area)
+{
+    struct ortkaveq_answer_symbols needed = ortkaveq_symbols_b(mode, size, LIST(0));
+    uint32_t number = job.number;
+    if (number == ORTKAVEQ_UNKNOWN || number == ORTKAVEQ_WRONG_LENGTH || number == ORTKAVEQ_BAD_SCHEME || number == ORTKAVEQ_TOO_MANY_SYMBOLS) {
+        hold(needed.number == number && needed.place == job.place && needed.symbols == 0, "ortkaveq_symbols_b refuses otherwise than the job");
+        return;
+    }
+    hold(needed.number == 0 && needed.place == 0, "ortkaveq_symbols_b refuses what the job does not");
+    hold(1 <= needed.symbols && needed.symbols <= ORTKAVEQ_MOST_SYMBOLS, "ortkaveq_symbols_b answers a count that cannot be");
+    size_t levels = (size_t)needed.symbols * ORTKAVEQ_SYMBOL;
+    bool short_of = l[1].length < levels || l[2].length < levels || area < size;
+    hold(short_of == (number == ORTKAVEQ_NO_ROOM), "the job asks for another room than ortkaveq_symbols_b");
+}
+
+/* What a response has for each job: number, place, its counts, and the lent lists. */
+static void put_response(uint8_t job, struct told answer, const struct list *lent)
+{
+    hold(answer.number <= ORTKAVEQ_WRONG_CHECK, "there is no such number");
+    hold(jobs[job].counts > 0 || answer.counts[0] == 0, "a job that mends nothing has mended bits");
+    put(&(uint8_t){(uint8_t)answer.number}, sizeof(uint8_t));
+    put(&answer.place, sizeof answer.place);
+    put(answer.counts, jobs[job].counts * sizeof *answer.counts);
+    for (const struct list *l = lent; l < lent + jobs[job].lent; l++) {
+        put(&(uint32_t){(uint32_t)l->length}, sizeof(uint32_t));
+        put(l->at, l->length * l->width);
+    }
+}
+
+/* The rest of a request. */
+static void serve(uint8_t job)
+{
+    struct list l[LISTS];
+    uint8_t mode;
+    uint64_t size = 0;
+    int count = 0;
+    get(&mode, sizeof mode);
+    if (job == 6)
+        get(&size, sizeof size);
+    for (const char *kind = jobs[job].lists; *kind; kind++)
+        l[count++] = get_list(*kind);
+    struct told answer = call(job, mode, size, l);
+    if (job == 5)
+        hold_symbols(answer, mode, l[0].length, l + 1, l[0].length);
+    if (job == 6)
+        hold_symbols(answer, mode, size, l, l[3].length);
+    put_response(job, answer, l + count - jobs[job].lent);
+    while (count > 0)
+        free(l[--count].at);
+}
+
+int main(void)
+{
+    uint8_t job;
+    while (get(&job, sizeof job), 1 <= job && job <= 6)
+        serve(job);
+    return EXIT_SUCCESS;
+}
