@@ -26,19 +26,19 @@ static void refused_words(enum job job, size_t code, size_t length, size_t n)
 {
     word.length = length, out.length = n;
     EACH(wrong, 0, length - 1, length + 1)
-        REFUSE(2, 0, with(&word, *wrong, job, code, n));
+        REFUSE(ORTKAVEQ_WRONG_LENGTH, 0, with(&word, *wrong, job, code, n));
     EACH(less, 0, n - 1)
-        REFUSE(3, 0, with(&out, *less, job, code, n));
+        REFUSE(ORTKAVEQ_NO_ROOM, 0, with(&out, *less, job, code, n));
     EACH(place, length - 1, length / 2, 0) {
         word.bytes[*place] = *place > 0 ? 2 : 255;
-        REFUSE(4, *place, run(job, code, n));
+        REFUSE(ORTKAVEQ_NOT_A_BIT, *place, run(job, code, n));
     }
 }
 
 /* Refused as uncorrectable, or another codeword. */
 static bool another(struct told answer, const struct list *codeword, size_t n)
 {
-    return answer.place == 0 && (answer.number == 9 ? answer.count == 0 : answer.number == 0 && !same(&out, codeword, n));
+    return answer.place == 0 && (answer.number == ORTKAVEQ_UNCORRECTABLE ? answer.count == 0 : answer.number == 0 && !same(&out, codeword, n));
 }
 
 static void words(size_t code, size_t n, size_t k, size_t t)
@@ -79,8 +79,8 @@ static void sent(enum job send, size_t mode, size_t size, size_t levels)
 static void short_points(enum job job, size_t mode, size_t size, size_t levels)
 {
     EACH(less, 0, levels - 1) {
-        REFUSE(3, 0, with(&i, *less, job, mode, size));
-        REFUSE(3, 0, with(&q, *less, job, mode, size));
+        REFUSE(ORTKAVEQ_NO_ROOM, 0, with(&i, *less, job, mode, size));
+        REFUSE(ORTKAVEQ_NO_ROOM, 0, with(&q, *less, job, mode, size));
     }
 }
 
@@ -89,11 +89,11 @@ static void spoilt(enum job job, size_t mode, size_t size)
 {
     EACH(at, 361, 257, 511, 407, 105, 1, 255, 151) {
         i.levels[*at] = *at % 4 == 3 ? 0 : INT16_MIN, q.levels[*at] = 0;
-        REFUSE(8, *at, run(job, mode, size));
+        REFUSE(ORTKAVEQ_STRAY_POINT, *at, run(job, mode, size));
     }
     EACH(at, 406, 362, 256, 150, 106, 0) {
         (*at % 4 == 2 ? &i : &q)->levels[*at] = -1;
-        REFUSE(7, *at, run(job, mode, size));
+        REFUSE(ORTKAVEQ_FILLED, *at, run(job, mode, size));
     }
 }
 
@@ -109,7 +109,7 @@ static void there_and_back(enum job send, enum job receive, size_t mode, size_t 
     }
     short_points(receive, mode, size, levels);
     EACH(less, 0, size - 1)
-        REFUSE(3, 0, with(&area, *less, receive, mode, size));
+        REFUSE(ORTKAVEQ_NO_ROOM, 0, with(&area, *less, receive, mode, size));
     if (levels > ORTKAVEQ_SYMBOL)
         spoilt(receive, mode, size);
     short_points(send, mode, levels, levels);
@@ -144,7 +144,7 @@ static void payload_a(size_t mode, size_t size)
 {
     there_and_back(SEND_A, RECEIVE_A, mode, size, LEVELS);
     EACH(wrong, 0, size - 1, size + 1)
-        REFUSE(2, 0, with(&frame, *wrong, SEND_A, mode, LEVELS));
+        REFUSE(ORTKAVEQ_WRONG_LENGTH, 0, with(&frame, *wrong, SEND_A, mode, LEVELS));
 }
 
 /* Hits in protected fields are counted, a hit in a segment breaks the check. */
@@ -156,7 +156,7 @@ static void uncoded_a(size_t size)
     EXPECT(0, 0, 0, 5, run(RECEIVE_A, 0, size));
     HOLD(same(&area, &frame, size));
     flip_a(in_half(1, 391));
-    REFUSE(10, 0, run(RECEIVE_A, 0, size));
+    REFUSE(ORTKAVEQ_WRONG_CHECK, 0, run(RECEIVE_A, 0, size));
 }
 
 /* t hits in each half are mended, one more is not; and with another codeword added to the first half the check is wrong. */
@@ -170,7 +170,7 @@ static void coded_a(size_t size)
     HOLD(same(&area, &frame, size));
     EACH(half, 1, 0) {
         flip_a(in_half(*half, 391));
-        REFUSE(9, *half, run(RECEIVE_A, 1, size));
+        REFUSE(ORTKAVEQ_UNCORRECTABLE, *half, run(RECEIVE_A, 1, size));
     }
     sent(SEND_A, 1, size, LEVELS);
     fill(&word, ORTKAVEQ_K3, 1);
@@ -179,7 +179,7 @@ static void coded_a(size_t size)
     for (size_t n = 0; n < ORTKAVEQ_N3; n++)
         if (out.bytes[n] == 1)
             flip_a(in_half(0, n));
-    REFUSE(10, 0, run(RECEIVE_A, 1, size));
+    REFUSE(ORTKAVEQ_WRONG_CHECK, 0, run(RECEIVE_A, 1, size));
 }
 
 /* ---- Payload B */
@@ -218,7 +218,7 @@ static void hits_b(size_t mode)
     HOLD(same(&area, &frame, size));
     EACH(block, 2, 1, 0) {
         flip_b(blocks[mode].bits * *block + 400);
-        REFUSE(9, *block, run(RECEIVE_B, mode, size));
+        REFUSE(ORTKAVEQ_UNCORRECTABLE, *block, run(RECEIVE_B, mode, size));
     }
 }
 
@@ -235,16 +235,16 @@ static void refused_b(size_t length)
     EACH(place, 209, 100, 0)
         EACH(entry, 1, 11) {
             scheme.bytes[*place] = (uint8_t)*entry;
-            REFUSE_B(5, *place, 2, ORTKAVEQ_B_BYTES2);
+            REFUSE_B(ORTKAVEQ_BAD_SCHEME, *place, 2, ORTKAVEQ_B_BYTES2);
         }
     EACH(entries, 209, 211, 0) {
         scheme.length = *entries;
-        REFUSE_B(5, ORTKAVEQ_SCHEME, 2, ORTKAVEQ_B_BYTES2);
+        REFUSE_B(ORTKAVEQ_BAD_SCHEME, ORTKAVEQ_SCHEME, 2, ORTKAVEQ_B_BYTES2);
     }
     EACH(mode, 1, 2)
         EACH(wrong, 0, blocks[*mode].bytes - 1, blocks[*mode].bytes + 1)
-            REFUSE_B(2, 0, *mode, *wrong);
-    REFUSE_B(2, 0, 0, 0);
+            REFUSE_B(ORTKAVEQ_WRONG_LENGTH, 0, *mode, *wrong);
+    REFUSE_B(ORTKAVEQ_WRONG_LENGTH, 0, 0, 0);
 }
 
 /* A frame of so many blocks; the OFDM symbols that it needs. */
@@ -262,17 +262,18 @@ static void largest_b(size_t mode, size_t bits, size_t size)
     set_scheme(bits);
     ACCEPT(ORTKAVEQ_MOST_SYMBOLS, run(SYMBOLS_B, mode, size));
     payload_b(mode, size / block, bits);
-    REFUSE_B(6, 0, mode, size + block);
+    REFUSE_B(ORTKAVEQ_TOO_MANY_SYMBOLS, 0, mode, size + block);
 }
 
 /* Document 01's counts, and sizes that no frame has. */
 static void counts_b(void)
 {
     static const size_t sizes[][3] = {{13440, 12449, 11502}, {67200, 62422, 57564}};
+    HOLD(sizes[1][0] == ORTKAVEQ_MOST_BYTES && ORTKAVEQ_MOST_LEVELS == ORTKAVEQ_MOST_SYMBOLS * ORTKAVEQ_SYMBOL);
     for (size_t mode = 0; mode <= 2; mode++)
         largest_b(mode, ORTKAVEQ_LEAST_BITS, sizes[0][mode]), largest_b(mode, ORTKAVEQ_MOST_BITS, sizes[1][mode]);
-    REFUSE(6, 0, run(SYMBOLS_B, 0, SIZE_MAX));
-    REFUSE(6, 0, run(RECEIVE_B, 0, SIZE_MAX));
+    REFUSE(ORTKAVEQ_TOO_MANY_SYMBOLS, 0, run(SYMBOLS_B, 0, SIZE_MAX));
+    REFUSE(ORTKAVEQ_TOO_MANY_SYMBOLS, 0, run(RECEIVE_B, 0, SIZE_MAX));
     set_scheme(2);
     ACCEPT(2, run(SYMBOLS_B, 2, ORTKAVEQ_B_BYTES2));
 }
@@ -285,13 +286,13 @@ static void unknown(size_t length)
     word.length = out.length = frame.length = scheme.length = area.length = i.length = q.length = length;
     EACH(code, 0, 4, 255)
         EACH(job, ENCODE, DECODE)
-            REFUSE(1, 0, run(*job, *code, length));
+            REFUSE(ORTKAVEQ_UNKNOWN, 0, run(*job, *code, length));
     EACH(mode, 2, 3, 255)
         EACH(job, SEND_A, RECEIVE_A)
-            REFUSE(1, 0, run(*job, *mode, length));
+            REFUSE(ORTKAVEQ_UNKNOWN, 0, run(*job, *mode, length));
     EACH(mode, 3, 4, 255)
         EACH(job, SYMBOLS_B, SEND_B, RECEIVE_B)
-            REFUSE(1, 0, run(*job, *mode, length));
+            REFUSE(ORTKAVEQ_UNKNOWN, 0, run(*job, *mode, length));
 }
 
 static void everything(void)

@@ -7,10 +7,12 @@
  * A list is passed as a pointer and then its length, in elements and not in bytes.
  *
  * What a caller owes, and no call can see for itself:
- *   - a pointer leads to as many elements as its length says, is aligned for them, and is not null, not even where the length is 0;
+ *   - a pointer leads to as many elements as its length says, is aligned for them, and is not null, not even where the length is 0
+ *     (as data() of an empty std::vector may be);
  *   - a list that a call may write overlaps no other list of that call;
  *   - while a call runs nothing else writes to its lists, or reads those that it may write.
- * Everything else may be wrong: any number, length or content is answered, with 0 or with the number of a refusal.
+ * Everything else may be wrong: any code or mode, length or content is answered, with 0 or with the number of a refusal. But a code or mode is 8 bits: of a
+ * wider number C hands over the lowest 8 alone, without a word, so that 257 is taken for 1.
  *
  * No call keeps anything: there is no state, nothing is allocated, and any thread may call at any time. Stack: less than 16 KiB a call (docs/SPEED.md).
  *
@@ -61,7 +63,11 @@ enum {
     /* A scheme: its entries, each the bits of a point. */
     ORTKAVEQ_SCHEME = 210, ORTKAVEQ_LEAST_BITS = 2, ORTKAVEQ_MOST_BITS = 10,
 
-    /* An OFDM symbol: elements of I and of Q. */
+    /*
+     * An OFDM symbol: elements of I and of Q. The index is 256 times the OFDM symbol, from 0, plus the sub-carrier k. Points are sent in the order k = 151 to
+     * 255, then 1 to 105, and a scheme's entries are in that order; k = 0 and 106 to 150 are unavailable and hold (0,0). Levels are Annex B's whole numbers; in
+     * Payload A -1, 0 and 1.
+     */
     ORTKAVEQ_SYMBOL = 256,
 
     /* The most OFDM symbols of a frame, its elements of I and of Q then, and the most bytes of any frame (mode 0, every entry 10). */
@@ -104,14 +110,14 @@ static_assert(sizeof(struct ortkaveq_answer_symbols) == 16 && offsetof(struct or
 /*
  * Encodes a word by code 1, 2 or 3.
  * Reads: word, k bits, exactly. Writes: the first n elements of out, the codeword.
- * Refuses with 1, 2, 3, 4. A refusal writes nothing; elements of out beyond n are never touched.
+ * Refuses with 1, 2, 3, 4. A refusal writes nothing; elements of out beyond n keep what they held.
  */
 struct ortkaveq_answer ortkaveq_encode(uint8_t code, const uint8_t *word, size_t word_length, uint8_t *out, size_t out_length);
 
 /*
  * Decodes a word: answers the codeword that differs from it in at most t places, and in how many it does, exactly when there is one.
  * Reads: word, n bits, exactly. Writes: the first n elements of out, the codeword.
- * Refuses with 1, 2, 3, 4, 9. A refusal writes nothing; elements of out beyond n are never touched.
+ * Refuses with 1, 2, 3, 4, 9. A refusal writes nothing; elements of out beyond n keep what they held.
  */
 struct ortkaveq_answer ortkaveq_decode(uint8_t code, const uint8_t *word, size_t word_length, uint8_t *out, size_t out_length);
 
@@ -120,14 +126,14 @@ struct ortkaveq_answer ortkaveq_decode(uint8_t code, const uint8_t *word, size_t
 /*
  * Sends a frame.
  * Reads: frame, 94 bytes in mode 0 and 58 in mode 1, exactly. Writes: the first 512 elements of i and of q.
- * Refuses with 1, 2, 3. A refusal writes nothing; elements beyond the 512 are never touched.
+ * Refuses with 1, 2, 3. A refusal writes nothing; elements beyond the 512 keep what they held.
  */
 struct ortkaveq_answer ortkaveq_send_a(uint8_t mode, const uint8_t *frame, size_t frame_length, int16_t *i, size_t i_length, int16_t *q, size_t q_length);
 
 /*
  * Receives a frame.
  * Reads: the first 512 elements of i and of q. Writes: the first 94 (mode 0) or 58 (mode 1) bytes of area, the frame.
- * Refuses with 1, 3, 7, 8, 9, 10. A refusal writes nothing; bytes of area beyond the frame are never touched.
+ * Refuses with 1, 3, 7, 8, 9, 10. A refusal writes nothing; bytes of area beyond the frame keep what they held.
  */
 struct ortkaveq_answer_a ortkaveq_receive_a(uint8_t mode, const int16_t *i, size_t i_length, const int16_t *q, size_t q_length, uint8_t *area,
                                             size_t area_length);
@@ -144,7 +150,7 @@ struct ortkaveq_answer_symbols ortkaveq_symbols_b(uint8_t mode, size_t size, con
 /*
  * Sends a frame.
  * Reads: frame, all of it; scheme, 210 entries, exactly. Writes: the first 256 elements of i and of q for each OFDM symbol needed.
- * Refuses with 1, 2, 5, 6, 3. A refusal writes nothing; elements beyond those are never touched.
+ * Refuses with 1, 2, 5, 6, 3. A refusal writes nothing; elements beyond those keep what they held.
  */
 struct ortkaveq_answer ortkaveq_send_b(uint8_t mode, const uint8_t *frame, size_t frame_length, const uint8_t *scheme, size_t scheme_length, int16_t *i,
                                        size_t i_length, int16_t *q, size_t q_length);
@@ -152,8 +158,8 @@ struct ortkaveq_answer ortkaveq_send_b(uint8_t mode, const uint8_t *frame, size_
 /*
  * Receives a frame of size bytes.
  * Reads: scheme, 210 entries, exactly; the first 256 elements of i and of q for each OFDM symbol needed. Writes: the first size bytes of area, the frame.
- * Refuses with 1, 2, 5, 6, 3, 7, 8, 9. A refusal writes nothing, but for 9, which leaves the first size bytes of area all zero; bytes of area beyond them are
- * never touched.
+ * Refuses with 1, 2, 5, 6, 3, 7, 8, 9. A refusal writes nothing, but for 9, which leaves the first size bytes of area all zero; bytes of area beyond them
+ * keep what they held.
  */
 struct ortkaveq_answer ortkaveq_receive_b(uint8_t mode, size_t size, const uint8_t *scheme, size_t scheme_length, const int16_t *i, size_t i_length,
                                           const int16_t *q, size_t q_length, uint8_t *area, size_t area_length);
