@@ -157,6 +157,8 @@ struct ortkaveq_answer ortkaveq_send_b(uint8_t mode, const uint8_t *frame, size_
 
 /*
  * Receives a frame of size bytes.
+ * Payload B has no frame check: a block with more than t hits can be mended into another codeword, in mode 1 about one in 25, and the frame is then accepted;
+ * uncoded, any legal points are. docs/READING.md, "What is not promised".
  * Reads: scheme, 210 entries, exactly; the first 256 elements of i and of q for each OFDM symbol needed. Writes: the first size bytes of area, the frame.
  * Refuses with 1, 2, 5, 6, 3, 7, 8, 9. A refusal writes nothing, but for 9, which leaves the first size bytes of area all zero; bytes of area beyond them
  * keep what they held.
