@@ -19,15 +19,16 @@ pub fn all() -> impl Iterator<Item = (usize, Row)> {
     [2, 1, 0].into_iter().flat_map(|mode| SCHEMES.into_iter().flat_map(move |scheme| of_scheme(mode, scheme)))
 }
 
-/// Receiving over 1, 16 and 256 OFDM symbols, clean and, if coded, with t hits in each block; and sending over 256, if
-/// coded. Where one OFDM symbol holds no block, two are the least.
+/// Receiving over 1, 16 and 256 OFDM symbols, clean and, if coded, with t hits in each block; and sending over 256 or, if
+/// uncoded, over all three. Where one OFDM symbol holds no block, two are the least.
 fn of_scheme(mode: u8, scheme: (&'static str, u8)) -> impl Iterator<Item = (usize, Row)> {
     let longest = move |symbols: usize| Longest { mode, scheme, symbols };
     let least = if longest(1).blocks() > 0 { 1 } else { 2 };
     let received = move |hits: usize| [least, 16, 256].map(|symbols| (symbols, longest(symbols).received(hits)));
     let code = bch::code(mode);
     let hit = code.into_iter().flat_map(move |code| received(code.t));
-    received(0).into_iter().chain(hit).chain(code.map(|_| (256, longest(256).sent())))
+    let sent: &[usize] = if code.is_some() { &[256] } else { &[1, 16, 256] };
+    received(0).into_iter().chain(hit).chain(sent.iter().map(move |&symbols| (symbols, longest(symbols).sent())))
 }
 
 /// The longest frame that so many OFDM symbols hold.

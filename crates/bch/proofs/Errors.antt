@@ -15,9 +15,9 @@ use Rattle.algebra.proofs.Powers.{pow, pow-mul}
 use Rattle.algebra.proofs.Words.{synd, synd-add}
 use Rattle.field.proofs.Elements.{GF512, element-of}
 use Rattle.field.proofs.Values.{a, value, coefficient, coefficient-low, coefficient-high, value-sum, of-inj}
-use Rattle.bch.specs.Words.{Bits, differ}
-use Rattle.bch.proofs.Digits.{bits-at}
-use Rattle.bch.proofs.Distances.{apart, apart-same, apart-other, differ-nil, differ-cons}
+use Rattle.bits.specs.Words.{Bits, differ}
+use Rattle.bits.proofs.Digits.{bits-at}
+use Rattle.bits.proofs.Distances.{apart, apart-same, apart-other, differ-nil, differ-cons}
 open Field2 GF512 using (Element, zero as 𝟘, add as _⊕_, mul as _⊗_)
 
 infixl 60 _⊕_

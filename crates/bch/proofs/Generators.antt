@@ -15,10 +15,10 @@ use Rattle.algebra.proofs.Powers.{pow, pow-add, pow-square}
 use Rattle.field.specs.Field.{sum, product, power, times, shifted}
 use Rattle.field.proofs.Elements.{GF512, element-of, of-0, of-1, of-sum, of-product}
 use Rattle.field.proofs.Values.{a, value, valueFrom, value-nil, value-cons, of-power}
-use Rattle.bch.specs.Words.{Bits, digits}
+use Rattle.bits.specs.Words.{Bits, digits}
 use Rattle.bch.specs.Codes.{code1, code2, code3}
 use Rattle.bch.specs.Held.{Rooted}
-use Rattle.bch.proofs.Digits.{digits-bits}
+use Rattle.bits.proofs.Digits.{digits-bits}
 open Field2 GF512 using (Element, zero as 𝟘, add as _⊕_, mul as _⊗_)
 
 infixl 60 _⊕_

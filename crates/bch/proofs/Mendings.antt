@@ -3,33 +3,29 @@
 -- Assumes nothing.
 use mathlib.Core.Path.{_≡_, sym, ap, _∙_}
 use mathlib.Core.Logic.{inl, inr}
-use mathlib.Core.List.{List, [], _∷_, _++_}
+use mathlib.Core.List.{List, _++_}
 use Prim.Native.Nat.{ℕ, _-_, _≤_, _<_}
 use native.Mathlib.Decide.{ℕ-discrete}
 use native.Mathlib.Omega.{arith}
-use borrow.Author.Tests.{eq-eqb, ne-eqb, le-ltb}
-use lib.Dec.{ltb}
-use lib.ListN.{length, getD, take, drop, length-append}
+use borrow.Author.Tests.{eq-eqb, ne-eqb}
+use lib.ListN.{length, take, drop, length-append}
 use lib.Seq.{take-at}
-use Rattle.ground.proofs.Firsts.{first-none}
-use Rattle.bch.specs.Words.{Bits, digits, firstBad, differ}
-use Rattle.bch.specs.Remainders.{remainder}
+use Rattle.bits.specs.Words.{Bits, digits, differ}
+use Rattle.bits.specs.Remainders.{remainder}
 use Rattle.bch.specs.Codes.{Code, known, unknown, named, code1, code2, code3, encoded, Codeword, Within}
-use Rattle.bch.specs.Answers.{decodeNumber, decodeMended}
-use Rattle.bch.specs.Promise.{passes, Decodes, Decoding}
+use Rattle.answers.specs.Answers.{accepted, ofDecoded}
+use Rattle.answers.specs.Checks.{passes}
+use Rattle.bch.specs.Promise.{Decodes, Decoding}
 use Rattle.bch.specs.Held.{Rooted}
-use Rattle.bch.specs.declared.Decoded.{Decoded}
-use Rattle.bch.proofs.Digits.{bits-at, length-digits, digits-bits}
-use Rattle.bch.proofs.Distances.{differ-self}
-use Rattle.bch.proofs.Checks.{all-pass}
+use Rattle.answers.specs.declared.Told.{Told}
+use Rattle.answers.specs.declared.Decoded.{Decoded}
+use Rattle.bits.proofs.Digits.{bits-append, none-bad, length-digits, digits-bits}
+use Rattle.bits.proofs.Distances.{differ-self}
+use Rattle.bch.proofs.Verdicts.{all-pass}
 use Rattle.bch.proofs.Generators.{rooted1, rooted2, rooted3}
 use Rattle.bch.proofs.Uniqueness.{unique}
 
 -- ---- encoding
-
-pub bits-append : (v w : List ℕ) → Bits v → Bits w → Bits (v ++ w)
-bits-append [] w hv hw = hw
-bits-append (b ∷ v) w hv hw = (hv .0, bits-append v w (hv .1) hw)
 
 encoded-codeword : {c : Code} → Rooted c → (m : List ℕ) → Bits m → length m ≡ c .k → Codeword c (encoded c m)
 unfolding encoded
@@ -44,9 +40,6 @@ encoded-codeword {c} rooted m bits long =
     }
 
 -- ---- the three codes by their numbers
-
-pub none-bad : (w : List ℕ) → Bits w → length w ≤ firstBad w
-none-bad w h = omega (arith, first-none (ltb 1) 0 w (λ i _. le-ltb 1 (getD w i 0) (omega (arith, bits-at w h i))))
 
 rooted-of : (number : ℕ) (c : Code) → named number ≡ known c → Rooted c
 rooted-of number c e = go (ℕ-discrete number 1) (ℕ-discrete number 2) (ℕ-discrete number 3)
@@ -82,24 +75,23 @@ module _ (number : ℕ) {c : Code} (code : named number ≡ known c) (w out : Li
 
   -- a codeword within t of the word is the answer
   near-is-answered : (v : List ℕ) → Within c w v
-      → (decodeNumber answer ≡ 0) × (decodeMended answer ≡ differ v w) × (after ≡ v ++ drop (c .n) out)
+      → (ofDecoded answer ≡ accepted (differ v w) 0) × (after ≡ v ++ drop (c .n) out)
   near-is-answered v within = go passed
     where
-      go : Decodes (passes c) w out answer after → (decodeNumber answer ≡ 0) × (decodeMended answer ≡ differ v w) × (after ≡ v ++ drop (c .n) out)
+      go : Decodes (passes c) w out answer after → (ofDecoded answer ≡ accepted (differ v w) 0) × (after ≡ v ++ drop (c .n) out)
       go (inr h) = absurd (h .none v within)
       go (inl m) =
           let same = only-codeword number code long (m .within) within in (
-            m .number,
-            m .count ∙ ap (λ (l : List ℕ). differ l w) same,
+            m .tells ∙ ap (λ (l : List ℕ). accepted (differ l w) 0) same,
             m .left ∙ ap (λ (l : List ℕ). l ++ drop (c .n) out) same,
           )
 
   -- a word further than t away is not
-  far-is-not : (v : List ℕ) → c .t < differ v w → decodeNumber answer ≡ 0 → take (c .n) after ≡ v → ⊥
-  far-is-not v far accepted e = go passed
+  far-is-not : (v : List ℕ) → c .t < differ v w → ofDecoded answer .number ≡ 0 → take (c .n) after ≡ v → ⊥
+  far-is-not v far zero e = go passed
     where
       go : Decodes (passes c) w out answer after → ⊥
-      go (inr h) = let z : _≡_ {A = ℕ} 9 0 = sym (h .number) ∙ accepted in omega arith
+      go (inr h) = let z : _≡_ {A = ℕ} 9 0 = ap (λ (t : Told). t .number) (sym (h .tells)) ∙ zero in omega arith
       go (inl m) =
           let same : m .codeword ≡ v = sym (take-at (m .codeword) (drop (c .n) out) (c .n) (m .within .codeword .long)) ∙ ap (take (c .n)) (sym (m .left)) ∙ e in
           let near : differ v w ≤ c .t = rw same at (m .within .near) in
@@ -110,21 +102,21 @@ module _ (number : ℕ) {c : Code} (code : named number ≡ known c) (w out : Li
 module _ (number : ℕ) {c : Code} (code : named number ≡ known c) (out : List ℕ) (room : c .n ≤ length out) (answer : Decoded) (after : List ℕ) where
   -- a codeword decodes to itself, with count 0
   pub codeword-decodes : (v : List ℕ) → Codeword c v → Decoding number v out answer after
-      → (decodeNumber answer ≡ 0) × (decodeMended answer ≡ 0) × (after ≡ v ++ drop (c .n) out)
+      → (ofDecoded answer ≡ accepted 0 0) × (after ≡ v ++ drop (c .n) out)
   codeword-decodes v codeword decoding =
       let z = differ-self v in
       let a = near-is-answered number code v out (codeword .bits) (codeword .long) room answer after decoding v (record { codeword = codeword; near = omega arith }) in
-      (a .0, a .1 ∙ z, a .2)
+      (a .0 ∙ ap (λ (m : ℕ). accepted m 0) z, a .1)
 
   module _ (m : List ℕ) (bits : Bits m) (long : length m ≡ c .k) (w : List ℕ) (w-bits : Bits w) (w-long : length w ≡ c .n)
       (decoding : Decoding number w out answer after) where
     -- encode, flip any at most t places, decode: the codeword comes back, and the count is the number of flips
     pub hits-are-mended : differ (encoded c m) w ≤ c .t
-        → (decodeNumber answer ≡ 0) × (decodeMended answer ≡ differ (encoded c m) w) × (after ≡ encoded c m ++ drop (c .n) out)
+        → (ofDecoded answer ≡ accepted (differ (encoded c m) w) 0) × (after ≡ encoded c m ++ drop (c .n) out)
     hits-are-mended near =
         near-is-answered number code w out w-bits w-long room answer after decoding (encoded c m)
         (record { codeword = encoding-codeword number code m bits long; near = near })
 
     -- with more than t flipped, the old codeword is never the answer
-    pub hits-beyond : c .t < differ (encoded c m) w → decodeNumber answer ≡ 0 → take (c .n) after ≡ encoded c m → ⊥
+    pub hits-beyond : c .t < differ (encoded c m) w → ofDecoded answer .number ≡ 0 → take (c .n) after ≡ encoded c m → ⊥
     hits-beyond far = far-is-not number code w out w-bits w-long room answer after decoding (encoded c m) far

@@ -12,11 +12,12 @@ use lib.Seq.{drop-cons}
 use lib.Pow.{pow-pos, shr-lt}
 use Rattle.ground.proofs.Xors.{xors, xor-left-comm, xor-double}
 use Rattle.field.proofs.Values.{plus}
-use Rattle.bch.specs.Words.{digits}
+use Rattle.bits.specs.Words.{digits}
 use Rattle.bch.specs.Registers.{tops}
-use Rattle.bch.specs.Remainders.{reduced, step, remainderFrom, remainder}
-use Rattle.bch.proofs.Digits.{length-digits, digits-xor, digits-last}
-use Rattle.bch.proofs.Remainders.{halved, step-0, xor-scaled, from-append}
+use Rattle.bits.specs.Remainders.{reduced, step, remainderFrom, remainder}
+use Rattle.bits.proofs.Digits.{length-digits, digits-last}
+use Rattle.bch.proofs.Sums.{digits-xor}
+use Rattle.bits.proofs.Remainders.{halved, step-0, xor-scaled, from-append}
 use Rattle.bch.proofs.Tops.{tops-shifted}
 
 -- ---- what falls out of the register

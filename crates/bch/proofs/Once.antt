@@ -1,67 +1,28 @@
 -- The promise leaves one answer and one memory, for every code number, word and lent list.
 -- Assumes nothing.
-use mathlib.Core.Path.{_≡_, refl, sym, ap, _∙_}
+use mathlib.Core.Path.{_≡_, sym, ap, _∙_}
 use mathlib.Core.Logic.{inl, inr}
-use mathlib.Core.Bool.{cond}
 use mathlib.Core.List.{List, _++_}
 use Prim.Native.Nat.{ℕ, _<_}
 use native.Mathlib.Decide.{decLt, ℕ-discrete}
 use native.Mathlib.Omega.{arith}
-use lib.Dec.{eqb}
 use lib.ListN.{length, drop}
-use Rattle.bch.specs.Words.{firstBad, differ}
+use Rattle.answers.specs.Answers.{accepted}
+use Rattle.answers.specs.Checks.{Checked, fails, passes}
+use Rattle.answers.proofs.Telling.{written-same, decoded-same}
+use Rattle.bits.specs.Words.{firstBad, differ}
 use Rattle.bch.specs.Codes.{Code, known, code1, code2, code3}
-use Rattle.bch.specs.Answers.{encodeNumber, encodePlace, decodeNumber, decodePlace, decodeMended}
-use Rattle.bch.specs.Promise.{Checked, fails, passes, checkedBy, checked, Encodes, Encoding, Decodes, Decoding, Mended}
+use Rattle.bch.specs.Promise.{checkedBy, checked, Encodes, Encoding, Decodes, Decoding, Mended}
 use Rattle.bch.specs.Held.{Rooted}
-use Rattle.bch.specs.declared.Refusal.the-variants.{UnknownCode, WrongLength, NoRoom, NotABit, Uncorrectable}
-use Rattle.bch.specs.declared.Encoded.{Encoded}
-use Rattle.bch.specs.declared.Encoded.the-variants.{Accepted as Written, Refused as NotWritten}
-use Rattle.bch.specs.declared.Decoded.{Decoded}
-use Rattle.bch.specs.declared.Decoded.the-variants.{Accepted, Refused}
-use Rattle.bch.proofs.Checks.{unknown-code, wrong-length, no-room, not-a-bit, all-pass}
+use Rattle.answers.specs.declared.Written.{Written}
+use Rattle.answers.specs.declared.Decoded.{Decoded}
+use Rattle.bch.proofs.Verdicts.{unknown-code, wrong-length, no-room, not-a-bit, all-pass}
 use Rattle.bch.proofs.Generators.{rooted1, rooted2, rooted3}
 use Rattle.bch.proofs.Uniqueness.{unique}
 
--- ---- an answer is its number, place and count
-
-encodeAnswer : ℕ → ℕ → Encoded
-encodeAnswer number place =
-    cond (eqb number 0) Written (cond (eqb number 1) (NotWritten UnknownCode) (cond (eqb number 2) (NotWritten WrongLength)
-    (cond (eqb number 3) (NotWritten NoRoom) (cond (eqb number 4) (NotWritten (NotABit place)) (NotWritten Uncorrectable)))))
-
-encode-answer : (a : Encoded) → encodeAnswer (encodeNumber a) (encodePlace a) ≡ a
-unfolding encodeAnswer
-encode-answer Written = refl
-encode-answer (NotWritten UnknownCode) = refl
-encode-answer (NotWritten WrongLength) = refl
-encode-answer (NotWritten NoRoom) = refl
-encode-answer (NotWritten (NotABit i)) = refl
-encode-answer (NotWritten Uncorrectable) = refl
-
-decodeAnswer : ℕ → ℕ → ℕ → Decoded
-decodeAnswer number place mended =
-    cond (eqb number 0) (Accepted mended) (cond (eqb number 1) (Refused UnknownCode) (cond (eqb number 2) (Refused WrongLength)
-    (cond (eqb number 3) (Refused NoRoom) (cond (eqb number 4) (Refused (NotABit place)) (Refused Uncorrectable)))))
-
-decode-answer : (a : Decoded) → decodeAnswer (decodeNumber a) (decodePlace a) (decodeMended a) ≡ a
-unfolding decodeAnswer
-decode-answer (Accepted m) = refl
-decode-answer (Refused UnknownCode) = refl
-decode-answer (Refused WrongLength) = refl
-decode-answer (Refused NoRoom) = refl
-decode-answer (Refused (NotABit i)) = refl
-decode-answer (Refused Uncorrectable) = refl
-
-encode-same : (a b : Encoded) → encodeNumber a ≡ encodeNumber b → encodePlace a ≡ encodePlace b → a ≡ b
-encode-same a b n p = sym (encode-answer a) ∙ cc (n, p) ∙ encode-answer b
-
-decode-same : (a b : Decoded) → decodeNumber a ≡ decodeNumber b → decodePlace a ≡ decodePlace b → decodeMended a ≡ decodeMended b → a ≡ b
-decode-same a b n p m = sym (decode-answer a) ∙ cc (n, p, m) ∙ decode-answer b
-
 -- ---- every check, and then one of the three codes
 
-module _ (P : Checked → Type 0) (size : Code → ℕ) (word out : List ℕ)
+module _ (P : Checked Code → Type 0) (size : Code → ℕ) (word out : List ℕ)
     (failed : (number place : ℕ) → P (fails number place)) (passed : (c : Code) → Rooted c → length word ≡ size c → P (passes c)) where
   of-code : (c : Code) → Rooted c → P (checkedBy (known c) size word out)
   of-code c rooted = long (ℕ-discrete (length word) (size c))
@@ -86,38 +47,38 @@ module _ (P : Checked → Type 0) (size : Code → ℕ) (word out : List ℕ)
 
 -- ---- encode
 
-module _ (word out : List ℕ) (a b : Encoded) (u v : List ℕ) where
-  abbrev SameEncoded : Checked → Type 0
+module _ (word out : List ℕ) (a b : Written) (u v : List ℕ) where
+  abbrev SameEncoded : Checked Code → Type 0
   SameEncoded k = Encodes k word out a u → Encodes k word out b v → (a ≡ b) × (u ≡ v)
 
   pub encode-once : (c : ℕ) → Encoding c word out a u → Encoding c word out b v → (a ≡ b) × (u ≡ v)
   encode-once =
       by-check SameEncoded (λ d. d .k) word out
-      (λ number place p q. (encode-same a b (p .0 ∙ sym (q .0)) (p .1 ∙ sym (q .1)), p .2 ∙ sym (q .2)))
-      (λ c rooted e p q. (encode-same a b (p .0 ∙ sym (q .0)) (p .1 ∙ sym (q .1)), p .2 ∙ sym (q .2)))
+      (λ number place p q. (written-same a b (p .0 ∙ sym (q .0)), p .1 ∙ sym (q .1)))
+      (λ c rooted e p q. (written-same a b (p .0 ∙ sym (q .0)), p .1 ∙ sym (q .1)))
 
 -- ---- decode
 
 module _ (word out : List ℕ) (a b : Decoded) (u v : List ℕ) where
-  abbrev SameDecoded : Checked → Type 0
+  abbrev SameDecoded : Checked Code → Type 0
   SameDecoded k = Decodes k word out a u → Decodes k word out b v → (a ≡ b) × (u ≡ v)
 
   one-mended : (c : Code) → Rooted c → length word ≡ c .n → Mended c word out a u → Mended c word out b v → (a ≡ b) × (u ≡ v)
   one-mended c rooted e p q =
       let same = unique rooted e (p .within) (q .within) in
-      let count : differ (p .codeword) word ≡ differ (q .codeword) word = ap (λ (l : List ℕ). differ l word) same in
+      let count : accepted (differ (p .codeword) word) 0 ≡ accepted (differ (q .codeword) word) 0 = ap (λ (l : List ℕ). accepted (differ l word) 0) same in
       let memory : p .codeword ++ drop (c .n) out ≡ q .codeword ++ drop (c .n) out = ap (λ (l : List ℕ). l ++ drop (c .n) out) same in
-      (decode-same a b (p .number ∙ sym (q .number)) (p .place ∙ sym (q .place)) (p .count ∙ count ∙ sym (q .count)), p .left ∙ memory ∙ sym (q .left))
+      (decoded-same a b (p .tells ∙ count ∙ sym (q .tells)), p .left ∙ memory ∙ sym (q .left))
 
   one-answer : (c : Code) → Rooted c → length word ≡ c .n → SameDecoded (passes c)
   one-answer c rooted e (inl p) (inl q) = one-mended c rooted e p q
   one-answer c rooted e (inl p) (inr q) = absurd (q .none (p .codeword) (p .within))
   one-answer c rooted e (inr p) (inl q) = absurd (p .none (q .codeword) (q .within))
   one-answer c rooted e (inr p) (inr q) =
-      (decode-same a b (p .number ∙ sym (q .number)) (p .place ∙ sym (q .place)) (p .count ∙ sym (q .count)), p .left ∙ sym (q .left))
+      (decoded-same a b (p .tells ∙ sym (q .tells)), p .left ∙ sym (q .left))
 
   pub decode-once : (c : ℕ) → Decoding c word out a u → Decoding c word out b v → (a ≡ b) × (u ≡ v)
   decode-once =
       by-check SameDecoded (λ d. d .n) word out
-      (λ number place p q. (decode-same a b (p .0 ∙ sym (q .0)) (p .1 ∙ sym (q .1)) (p .2 ∙ sym (q .2)), p .3 ∙ sym (q .3)))
+      (λ number place p q. (decoded-same a b (p .0 ∙ sym (q .0)), p .1 ∙ sym (q .1)))
       one-answer

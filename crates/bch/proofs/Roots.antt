@@ -11,12 +11,13 @@ use Rattle.algebra.proofs.Fields.{Field2, ring, add-self, add-zero, zero-add, a
 use Rattle.algebra.proofs.Powers.{pow, pow-zero as pow-zero', pow-suc as pow-suc'}
 use Rattle.field.proofs.Elements.{GF512, element-of, of-0}
 use Rattle.field.proofs.Values.{a, value, value-nil, value-cons, value-append, value-plus}
-use Rattle.bch.specs.Words.{Bits, digits}
-use Rattle.bch.specs.Remainders.{reduced, step, remainderFrom, remainder}
+use Rattle.bits.specs.Words.{Bits, digits}
+use Rattle.bits.specs.Remainders.{reduced, step, remainderFrom, remainder}
 use Rattle.bch.specs.Codes.{Code, encoded, Codeword}
 use Rattle.bch.specs.Held.{Rooted}
-use Rattle.bch.proofs.Digits.{bits-take, length-digits, digit-xor, digits-xor}
-use Rattle.bch.proofs.Remainders.{halved}
+use Rattle.bits.proofs.Digits.{bits-take, length-digits, digit-xor}
+use Rattle.bch.proofs.Sums.{digits-xor}
+use Rattle.bits.proofs.Remainders.{halved}
 open Field2 GF512 using (Element, zero as 𝟘, add as _⊕_, mul as _⊗_)
 
 infixl 60 _⊕_

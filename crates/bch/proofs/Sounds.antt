@@ -4,12 +4,12 @@ use mathlib.Core.Path.{_≡_, sym, ap, _∙_}
 use mathlib.Core.List.{List}
 use Prim.Native.Nat.{ℕ, _-_, _*_, _^_}
 use lib.Dec.{T, leb, eqb, leb→le, eqb→eq}
-use Rattle.bch.specs.Words.{digits}
+use Rattle.bits.specs.Words.{digits}
 use Rattle.bch.specs.Registers.{tops, whole}
-use Rattle.bch.specs.Remainders.{remainder}
+use Rattle.bits.specs.Remainders.{remainder}
 use Rattle.bch.specs.Held.{Rooted, Sound, codeOf}
 use Rattle.bch.specs.declared.code.Held.{Held}
-use Rattle.bch.proofs.Remainders.{remainder-scaled}
+use Rattle.bits.proofs.Remainders.{remainder-scaled}
 use Rattle.bch.proofs.Tops.{digits-tops}
 
 pub sound : (h : Held) → Rooted (codeOf h) → T (leb (h .n - h .k) 192) → T (leb (h .n) 508) → T (leb (h .t) 16)

@@ -11,10 +11,10 @@ use lib.Bits.{bitXor, block-half, xor-shr, xor-mod}
 use lib.ListN.{length}
 use lib.Pow.{pow-pos, pow-add, shl-shr, shr-shr, shr-lt, high, field, mod-pow-add, mod-mod-pow}
 use Rattle.ground.proofs.Xors.{xor-double}
-use Rattle.bch.specs.Words.{Bits, digits}
-use Rattle.bch.specs.Registers.{tops, packed}
+use Rattle.bits.specs.Words.{Bits, digits}
+use Rattle.bch.specs.Registers.{tops, atTop}
 use Rattle.field.proofs.Values.{plus}
-use Rattle.bch.proofs.Remainders.{halved}
+use Rattle.bits.proofs.Remainders.{halved}
 
 digit-mod : (m e x : ℕ) → m < e → x % 2 ^ e / 2 ^ m % 2 ≡ x / 2 ^ m % 2
 digit-mod m e x h =
@@ -63,47 +63,47 @@ tops-xor (suc m) x y =
 
 -- ---- bits at the top of a register
 
-packed-lt : (bs : List ℕ) → Bits bs → packed bs < 2 ^ 192
-unfolding packed
+packed-lt : (bs : List ℕ) → Bits bs → atTop bs < 2 ^ 192
+unfolding atTop
 packed-lt [] bits = pow-pos 192
 packed-lt (b ∷ bs) bits = digits-lt (bits .0) (shr-lt 191 1 (packed-lt bs (bits .1)))
 
-shifted-digits : (r k x : ℕ) (bs : List ℕ) → r + k ≡ 192 → packed (digits r x ++ bs) ≡ x % 2 ^ r * 2 ^ k + packed bs / 2 ^ r
-unfolding packed digits
+shifted-digits : (r k x : ℕ) (bs : List ℕ) → r + k ≡ 192 → atTop (digits r x ++ bs) ≡ x % 2 ^ r * 2 ^ k + atTop bs / 2 ^ r
+unfolding atTop digits
 shifted-digits zero k x bs h = rw (mod-one x, zero-mul (2 ^ k)) (omega arith)
 shifted-digits (suc r) k x bs h =
     let d = x / 2 ^ r % 2 in
     let s : 191 ≡ r + k = omega arith in
     let p : d * 2 ^ 191 ≡ d * (2 ^ r * 2 ^ k) = ap (λ (n : ℕ). d * 2 ^ n) s ∙ ap (λ (n : ℕ). d * n) (pow-add 2 r k) in
-    ap₂ _+_ p (ap (λ (n : ℕ). n / 2) (shifted-digits r (suc k) x bs (omega arith)) ∙ block-half (x % 2 ^ r) k (packed bs / 2 ^ r))
-    ∙ omega (arith, ap (λ (n : ℕ). n * 2 ^ k) (rw one-add at (mod-pow-add x 1 r)), rw add-one at (shr-shr (packed bs) r 1))
+    ap₂ _+_ p (ap (λ (n : ℕ). n / 2) (shifted-digits r (suc k) x bs (omega arith)) ∙ block-half (x % 2 ^ r) k (atTop bs / 2 ^ r))
+    ∙ omega (arith, ap (λ (n : ℕ). n * 2 ^ k) (rw one-add at (mod-pow-add x 1 r)), rw add-one at (shr-shr (atTop bs) r 1))
 
 -- digits before bits
-pub packed-before : (r x : ℕ) (bs : List ℕ) → r ≤ 192 → x < 2 ^ r → packed (digits r x ++ bs) ≡ x * 2 ^ (192 - r) + packed bs / 2 ^ r
-packed-before r x bs h l = shifted-digits r (192 - r) x bs (omega arith) ∙ ap (λ (n : ℕ). n * 2 ^ (192 - r) + packed bs / 2 ^ r) (mod-eq-of-lt l)
+pub packed-before : (r x : ℕ) (bs : List ℕ) → r ≤ 192 → x < 2 ^ r → atTop (digits r x ++ bs) ≡ x * 2 ^ (192 - r) + atTop bs / 2 ^ r
+packed-before r x bs h l = shifted-digits r (192 - r) x bs (omega arith) ∙ ap (λ (n : ℕ). n * 2 ^ (192 - r) + atTop bs / 2 ^ r) (mod-eq-of-lt l)
 
-pub packed-digits : (r x : ℕ) → r ≤ 192 → x < 2 ^ r → packed (digits r x) ≡ x * 2 ^ (192 - r)
-unfolding packed
+pub packed-digits : (r x : ℕ) → r ≤ 192 → x < 2 ^ r → atTop (digits r x) ≡ x * 2 ^ (192 - r)
+unfolding atTop
 packed-digits r x h l =
-    ap packed (sym (append-nil (digits r x))) ∙ packed-before r x [] h l ∙ ap (λ (n : ℕ). x * 2 ^ (192 - r) + n) (zero-div (2 ^ r)) ∙ add-zero _
+    ap atTop (sym (append-nil (digits r x))) ∙ packed-before r x [] h l ∙ ap (λ (n : ℕ). x * 2 ^ (192 - r) + n) (zero-div (2 ^ r)) ∙ add-zero _
 
 -- what stands at the top has zeros below
-packed-below : (bs : List ℕ) (k : ℕ) → length bs + k ≤ 192 → packed bs % 2 ^ k ≡ 0
-unfolding packed
+packed-below : (bs : List ℕ) (k : ℕ) → length bs + k ≤ 192 → atTop bs % 2 ^ k ≡ 0
+unfolding atTop
 packed-below [] k h = zero-mod (2 ^ k)
 packed-below (b ∷ bs) k h =
     let s : 191 ≡ 191 - k + k = omega arith in
     let p : b * 2 ^ 191 ≡ b * 2 ^ (191 - k) * 2 ^ k
     = ap (λ (n : ℕ). b * 2 ^ n) s ∙ ap (λ (n : ℕ). b * n) (pow-add 2 (191 - k) k) ∙ sym (mul-assoc b (2 ^ (191 - k)) (2 ^ k)) in
-    rw (p, mul-add-mod-self-right (b * 2 ^ (191 - k)) (2 ^ k) (packed bs / 2), ← (field (packed bs) k 1), packed-below bs (k + 1) (omega arith))
+    rw (p, mul-add-mod-self-right (b * 2 ^ (191 - k)) (2 ^ k) (atTop bs / 2), ← (field (atTop bs) k 1), packed-below bs (k + 1) (omega arith))
 
 unpacked : (K b p : ℕ) → p < K * 2 → p % 2 ≡ 0 → (b * K + p / 2) * 2 % (K * 2) ≡ p
 unpacked K b p l e = let s : (b * K + p / 2) * 2 ≡ b * (K * 2) + p = omega arith in rw s (digits-mod b l)
 
-pub tops-packed : (bs : List ℕ) → Bits bs → length bs ≤ 192 → tops (length bs) (packed bs) ≡ bs
-unfolding tops packed
+pub tops-packed : (bs : List ℕ) → Bits bs → length bs ≤ 192 → tops (length bs) (atTop bs) ≡ bs
+unfolding tops atTop
 tops-packed [] bits h = refl
 tops-packed (b ∷ bs) bits h =
     ap₂ _∷_ (ap (λ (n : ℕ). n % 2) (high b 191 (shr-lt 191 1 (packed-lt bs (bits .1)))) ∙ mod-eq-of-lt (bits .0))
-    (ap (tops (length bs)) (unpacked (2 ^ 191) b (packed bs) (packed-lt bs (bits .1)) (packed-below bs 1 (omega arith)))
+    (ap (tops (length bs)) (unpacked (2 ^ 191) b (atTop bs) (packed-lt bs (bits .1)) (packed-below bs 1 (omega arith)))
     ∙ tops-packed bs (bits .1) (omega arith))

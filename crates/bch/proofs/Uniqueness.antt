@@ -11,10 +11,10 @@ use Rattle.algebra.proofs.Places.{Vanishing}
 use Rattle.algebra.proofs.Words.{synd, bound}
 use Rattle.field.proofs.Elements.{GF512}
 use Rattle.field.proofs.Values.{a, a-nonzero, a-differ}
-use Rattle.bch.specs.Words.{differ}
+use Rattle.bits.specs.Words.{differ}
 use Rattle.bch.specs.Codes.{Code, Codeword, Within}
 use Rattle.bch.specs.Held.{Rooted}
-use Rattle.bch.proofs.Distances.{differ-comm, triangle}
+use Rattle.bits.proofs.Distances.{differ-comm, triangle}
 use Rattle.bch.proofs.Errors.{Pair, error, weight-error, synd-error, same-of-error}
 use Rattle.bch.proofs.Roots.{codeword-zero}
 

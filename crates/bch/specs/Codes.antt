@@ -6,8 +6,8 @@ use Prim.Native.Nat.{ℕ, _-_, _≤_}
 use lib.Dec.{eqb}
 use lib.ListN.{length, take}
 use mathlib.Core.Bool.{cond}
-use Rattle.bch.specs.Words.{Bits, digits, differ}
-use Rattle.bch.specs.Remainders.{remainder}
+use Rattle.bits.specs.Words.{Bits, digits, differ}
+use Rattle.bits.specs.Remainders.{remainder}
 
 -- n bits, of which the first k are information; it mends t; the generator has degree n - k
 pub record Code : Type 0 where

@@ -8,40 +8,34 @@ use Prim.Native.Nat.{ℕ}
 use lib.Dec.{eqb, ltb}
 use lib.ListN.{length, drop}
 use mathlib.Core.Bool.{cond}
-use Rattle.bch.specs.Words.{firstBad, differ}
+use Rattle.answers.specs.Answers.{accepted, refused, ofWritten, ofDecoded}
+use Rattle.answers.specs.Checks.{Checked, fails, passes}
+use Rattle.answers.specs.declared.Written.{Written}
+use Rattle.answers.specs.declared.Decoded.{Decoded}
+use Rattle.bits.specs.Words.{firstBad, differ}
 use Rattle.bch.specs.Codes.{Code, Named, known, unknown, named, encoded, Within}
-use Rattle.bch.specs.Answers.{encodeNumber, encodePlace, decodeNumber, decodePlace, decodeMended}
-use Rattle.bch.specs.declared.Encoded.{Encoded}
-use Rattle.bch.specs.declared.Decoded.{Decoded}
 
--- ---- the checks 1, 2, 3 and 4
-
--- the number and place of the first that fails, or the code
-pub data Checked : Type 0 where
-  fails : ℕ → ℕ → Checked
-  passes : Code → Checked
+-- ---- the checks 1, 2, 3 and 4, which give the code
 
 -- for a word that should have `size` bits, and a lent list that should have n elements or more
-abbrev pub checkedBy : Named → (Code → ℕ) → List ℕ → List ℕ → Checked
+abbrev pub checkedBy : Named → (Code → ℕ) → List ℕ → List ℕ → Checked Code
 checkedBy unknown size word out = fails 1 0
 checkedBy (known c) size word out =
     cond (eqb (length word) (size c))
     (cond (ltb (length out) (c .n)) (fails 3 0) (cond (ltb (firstBad word) (length word)) (fails 4 (firstBad word)) (passes c)))
     (fails 2 0)
 
-abbrev pub checked : ℕ → (Code → ℕ) → List ℕ → List ℕ → Checked
+abbrev pub checked : ℕ → (Code → ℕ) → List ℕ → List ℕ → Checked Code
 checked c = checkedBy (named c)
 
 -- ---- encode
 
-abbrev pub Encodes : Checked → List ℕ → List ℕ → Encoded → List ℕ → Type 0
-Encodes (fails number place) word out answer after =
-    (encodeNumber answer ≡ number) × (encodePlace answer ≡ place) × (after ≡ out)
-Encodes (passes c) word out answer after =
-    (encodeNumber answer ≡ 0) × (encodePlace answer ≡ 0) × (after ≡ encoded c word ++ drop (c .n) out)
+abbrev pub Encodes : Checked Code → List ℕ → List ℕ → Written → List ℕ → Type 0
+Encodes (fails number place) word out answer after = (ofWritten answer ≡ refused number place) × (after ≡ out)
+Encodes (passes c) word out answer after = (ofWritten answer ≡ accepted 0 0) × (after ≡ encoded c word ++ drop (c .n) out)
 
 -- encode(c, word, out): the answer, and `out` after
-abbrev pub Encoding : ℕ → List ℕ → List ℕ → Encoded → List ℕ → Type 0
+abbrev pub Encoding : ℕ → List ℕ → List ℕ → Written → List ℕ → Type 0
 Encoding c word out = Encodes (checked c (λ d. d .k) word out) word out
 
 -- ---- decode
@@ -50,22 +44,17 @@ Encoding c word out = Encodes (checked c (λ d. d .k) word out) word out
 pub record Mended (c : Code) (word out : List ℕ) (answer : Decoded) (after : List ℕ) : Type 0 where
   pub codeword : List ℕ
   pub within : Within c word codeword
-  pub number : decodeNumber answer ≡ 0
-  pub place : decodePlace answer ≡ 0
-  pub count : decodeMended answer ≡ differ codeword word
+  pub tells : ofDecoded answer ≡ accepted (differ codeword word) 0
   pub left : after ≡ codeword ++ drop (c .n) out
 
 -- no codeword lies within t of the word: it is refused as uncorrectable, and nothing is changed
 pub record Hopeless (c : Code) (word out : List ℕ) (answer : Decoded) (after : List ℕ) : Type 0 where
   pub none : (v : List ℕ) → Within c word v → ⊥
-  pub number : decodeNumber answer ≡ 9
-  pub place : decodePlace answer ≡ 0
-  pub count : decodeMended answer ≡ 0
+  pub tells : ofDecoded answer ≡ refused 9 0
   pub left : after ≡ out
 
-abbrev pub Decodes : Checked → List ℕ → List ℕ → Decoded → List ℕ → Type 0
-Decodes (fails number place) word out answer after =
-    (decodeNumber answer ≡ number) × (decodePlace answer ≡ place) × (decodeMended answer ≡ 0) × (after ≡ out)
+abbrev pub Decodes : Checked Code → List ℕ → List ℕ → Decoded → List ℕ → Type 0
+Decodes (fails number place) word out answer after = (ofDecoded answer ≡ refused number place) × (after ≡ out)
 Decodes (passes c) word out answer after = Mended c word out answer after ⊎ Hopeless c word out answer after
 
 -- decode(c, word, out): the answer, and `out` after

@@ -46,18 +46,18 @@ const CODE3: Held = Held {
 };
 
 // The code of a number, if there is one.
-pub enum Named {
+pub enum Numbered {
     Known(Held),
     Unknown,
 }
 
-pub fn numbered(code: u8) -> Named
+pub fn of_number(code: u8) -> Numbered
     ensures { λ r. ⌜ Holds code r ⌝ }
 {
     match code {
-        1 => Named::Known(CODE1),
-        2 => Named::Known(CODE2),
-        3 => Named::Known(CODE3),
-        _ => Named::Unknown,
+        1 => Numbered::Known(CODE1),
+        2 => Numbered::Known(CODE2),
+        3 => Numbered::Known(CODE3),
+        _ => Numbered::Unknown,
     }
 }

@@ -6,9 +6,9 @@ ghost use Prim.Native.Nat.{ℕ, _+_, _*_, _/_, _%_, _^_, _<_};
 ghost use lib.Bits.{bitXor};
 ghost use lib.Dec.{eqb};
 ghost use lib.ListN.{length, drop};
-ghost use Rattle.bch.specs.Words.{lowest, digits};
-ghost use Rattle.bch.specs.Remainders.{step, remainder, remainderFrom};
-ghost use Rattle.bch.specs.Registers.{number, whole, packed, tops, Fours};
+ghost use Rattle.bits.specs.Words.{lowest, digits};
+ghost use Rattle.bits.specs.Remainders.{step, remainder, remainderFrom};
+ghost use Rattle.bch.specs.Registers.{contents, whole, atTop, tops, Fours};
 
 pub struct Register {
     pub high: u64,
@@ -25,14 +25,14 @@ const ZERO: Register = Register {
 
 // The highest digit.
 pub fn top(r: Register) -> u64
-    ensures { λ t. ⌜ (t ≡ number r / 2 ^ 191) × (t < 2) ⌝ }
+    ensures { λ t. ⌜ (t ≡ contents r / 2 ^ 191) × (t < 2) ⌝ }
 {
     r.high / 0x8000_0000_0000_0000
 }
 
 // One place up; the highest digit falls out.
 pub fn up(r: Register) -> Register
-    ensures { λ q. ⌜ number q ≡ number r * 2 % 2 ^ 192 ⌝ }
+    ensures { λ q. ⌜ contents q ≡ contents r * 2 % 2 ^ 192 ⌝ }
 {
     Register {
         high: r.high % 0x8000_0000_0000_0000 * 2 + r.mid / 0x8000_0000_0000_0000,
@@ -44,7 +44,7 @@ pub fn up(r: Register) -> Register
 // One place down, with b as the highest digit; the lowest falls out.
 fn down(r: Register, b: u64) -> Register
     requires { ⌜ b < 2 ⌝ }
-    ensures { λ q. ⌜ number q ≡ b * 2 ^ 191 + number r / 2 ⌝ }
+    ensures { λ q. ⌜ contents q ≡ b * 2 ^ 191 + contents r / 2 ⌝ }
 {
     Register {
         high: b * 0x8000_0000_0000_0000 + r.high / 2,
@@ -55,7 +55,7 @@ fn down(r: Register, b: u64) -> Register
 
 // The sum without carries.
 pub fn xor(r: Register, s: Register) -> Register
-    ensures { λ q. ⌜ number q ≡ bitXor (number r) (number s) ⌝ }
+    ensures { λ q. ⌜ contents q ≡ bitXor (contents r) (contents s) ⌝ }
 {
     Register {
         high: r.high ^ s.high,
@@ -65,7 +65,7 @@ pub fn xor(r: Register, s: Register) -> Register
 }
 
 pub fn is_zero(r: Register) -> bool
-    ensures { λ z. ⌜ z ≡ eqb (number r) 0 ⌝ }
+    ensures { λ z. ⌜ z ≡ eqb (contents r) 0 ⌝ }
 {
     if r.high == 0 {
         if r.mid == 0 {
@@ -78,7 +78,7 @@ pub fn is_zero(r: Register) -> bool
 // The register takes in one bit; the generator g stands without its highest digit.
 fn step(r: Register, g: Register, b: u8) -> Register
     requires { ⌜ b < 2 ⌝ }
-    ensures { λ q. ⌜ number q ≡ step 192 (whole g) (number r) b ⌝ }
+    ensures { λ q. ⌜ contents q ≡ step 192 (whole g) (contents r) b ⌝ }
 {
     let moved = up(r);
     if top(r) == b as u64 {
@@ -103,7 +103,7 @@ fn fours(g: Register) -> [Register; 16]
 
 // Four places up; the highest four digits fall out.
 fn up4(r: Register) -> Register
-    ensures { λ q. ⌜ number q ≡ number r * 16 % 2 ^ 192 ⌝ }
+    ensures { λ q. ⌜ contents q ≡ contents r * 16 % 2 ^ 192 ⌝ }
 {
     Register {
         high: r.high % 0x1000_0000_0000_0000 * 16 + r.mid / 0x1000_0000_0000_0000,
@@ -115,7 +115,7 @@ fn up4(r: Register) -> Register
 // Four places down, with the four digits of b as the highest; the lowest four fall out.
 fn down4(r: Register, b: u64) -> Register
     requires { ⌜ b < 16 ⌝ }
-    ensures { λ q. ⌜ number q ≡ b * 2 ^ 188 + number r / 16 ⌝ }
+    ensures { λ q. ⌜ contents q ≡ b * 2 ^ 188 + contents r / 16 ⌝ }
 {
     Register {
         high: b * 0x1000_0000_0000_0000 + r.high / 16,
@@ -131,7 +131,7 @@ fn wide(b: u8) -> u64
     (b % 2) as u64
 }
 
-// The number of the four bits from i on.
+// The contents of the four bits from i on.
 fn four(word: &[u8], i: usize) -> u64
     requires { ⌜ i + 3 < length (now word) ⌝ }
     ensures { λ b. ⌜ (b < 16) × (drop i (lowest (now (word .entry))) ≡ digits 4 b ++ drop (i + 4) (lowest (now (word .entry)))) ⌝ }
@@ -142,21 +142,21 @@ fn four(word: &[u8], i: usize) -> u64
 // The four digits that fall out of the register with those of b added: the place of their remainder in the table.
 fn slot(r: Register, b: u64) -> usize
     requires { ⌜ b < 16 ⌝ }
-    ensures { λ i. ⌜ (i ≡ bitXor (number r / 2 ^ 188) b) × (i < 16) ⌝ }
+    ensures { λ i. ⌜ (i ≡ bitXor (contents r / 2 ^ 188) b) × (i < 16) ⌝ }
 {
     ((r.high / 0x1000_0000_0000_0000) ^ b) as usize
 }
 
 // The register takes in four bits; e is the remainder of what falls out with those bits added.
 fn step4(r: Register, e: Register) -> Register
-    ensures { λ q. ⌜ ((g b : ℕ) → number e ≡ remainder 192 g (digits 4 (bitXor (number r / 2 ^ 188) b)) → number q ≡ remainderFrom 192 g (number r) (digits 4 b)) ⌝ }
+    ensures { λ q. ⌜ ((g b : ℕ) → contents e ≡ remainder 192 g (digits 4 (bitXor (contents r / 2 ^ 188) b)) → contents q ≡ remainderFrom 192 g (contents r) (digits 4 b)) ⌝ }
 {
     xor(up4(r), e)
 }
 
 // The remainder of word by the generator g; an element counts as its lowest binary digit.
 pub fn remainder(g: Register, word: &[u8]) -> Register
-    ensures { λ q. ⌜ number q ≡ remainder 192 (whole g) (lowest (now (word .entry))) ⌝ }
+    ensures { λ q. ⌜ contents q ≡ remainder 192 (whole g) (lowest (now (word .entry))) ⌝ }
 {
     let table = fours(g);
     let mut r = ZERO;
@@ -173,8 +173,8 @@ pub fn remainder(g: Register, word: &[u8]) -> Register
 }
 
 // The bits of word at the top of a register; an element counts as its lowest binary digit.
-pub fn packed(word: &[u8]) -> Register
-    ensures { λ q. ⌜ number q ≡ packed (lowest (now (word .entry))) ⌝ }
+pub fn at_top(word: &[u8]) -> Register
+    ensures { λ q. ⌜ contents q ≡ atTop (lowest (now (word .entry))) ⌝ }
 {
     let mut r = ZERO;
     let mut i: usize = word.len();
@@ -191,7 +191,7 @@ pub fn packed(word: &[u8]) -> Register
 
 // The highest digits, as many as out has places.
 pub fn put(r: Register, out: &mut [u8])
-    ensures { λ _. ⌜ now (out .exit) ≡ tops (length (now (out .entry))) (number r) ⌝ }
+    ensures { λ _. ⌜ now (out .exit) ≡ tops (length (now (out .entry))) (contents r) ⌝ }
 {
     let mut rest = r;
     let mut i: usize = 0;

@@ -7,46 +7,51 @@ use lib.IntN.{ℤ}
 use Rattle.bch.proofs.Once.{encode-once, decode-once}
 use Rattle.payload_a.proofs.OnceA.{send-a-once, receive-a-once}
 use Rattle.payload_b.proofs.OnceB.{send-b-once, receive-b-once}
-use Rattle.bridge.specs.Calls.{ofEncoded, ofDecoded, ofSent, ofReceivedA, ofReceivedB}
+use Rattle.answers.specs.Answers.{ofWritten, ofDecoded, ofReceivedA, ofReceivedB}
+use Rattle.answers.specs.declared.Written.{Written}
+use Rattle.answers.specs.declared.Decoded.{Decoded}
+use Rattle.answers.specs.declared.ReceivedA.{ReceivedA}
+use Rattle.answers.specs.declared.ReceivedB.{ReceivedB}
+use Rattle.bridge.specs.Calls.{answerOf, answerAOf}
 use Rattle.bridge.specs.Calls.{EncodeCall, DecodeCall, SendACall, ReceiveACall, SendBCall, ReceiveBCall, SymbolsBCall}
 use Rattle.bridge.specs.declared.Answer.{Answer}
-use Rattle.bridge.specs.declared.ReceivedAnswer.{ReceivedAnswer}
+use Rattle.bridge.specs.declared.AnswerA.{AnswerA}
 use Rattle.bridge.specs.declared.Needed.{Needed}
 
 module _ {c : ℕ} {word out : List ℕ} {r s : Answer} {u v : List ℕ} where
   pub encode-call-once : EncodeCall c word out r u → EncodeCall c word out s v → (r ≡ s) × (u ≡ v)
   encode-call-once p q =
       let same = encode-once word out (p .answer) (q .answer) u v c (p .promise) (q .promise) in
-      (p .told ∙ ap ofEncoded (same .0) ∙ sym (q .told), same .1)
+      (p .told ∙ ap (λ (a : Written). answerOf (ofWritten a)) (same .0) ∙ sym (q .told), same .1)
 
   pub decode-call-once : DecodeCall c word out r u → DecodeCall c word out s v → (r ≡ s) × (u ≡ v)
   decode-call-once p q =
       let same = decode-once word out (p .answer) (q .answer) u v c (p .promise) (q .promise) in
-      (p .told ∙ ap ofDecoded (same .0) ∙ sym (q .told), same .1)
+      (p .told ∙ ap (λ (a : Decoded). answerOf (ofDecoded a)) (same .0) ∙ sym (q .told), same .1)
 
 module _ {mode : ℕ} {frame : List ℕ} {is qs : List ℤ} {r s : Answer} {is1 qs1 is2 qs2 : List ℤ} where
   pub send-a-call-once : SendACall mode frame is qs r is1 qs1 → SendACall mode frame is qs s is2 qs2 → (r ≡ s) × (is1 ≡ is2) × (qs1 ≡ qs2)
   send-a-call-once p q =
       let same = send-a-once mode frame is qs (p .answer) (q .answer) is1 qs1 is2 qs2 (p .promise) (q .promise) in
-      (p .told ∙ ap ofSent (same .0) ∙ sym (q .told), same .1, same .2)
+      (p .told ∙ ap (λ (a : Written). answerOf (ofWritten a)) (same .0) ∙ sym (q .told), same .1, same .2)
 
-module _ {mode : ℕ} {is qs : List ℤ} {area : List ℕ} {r s : ReceivedAnswer} {u v : List ℕ} where
+module _ {mode : ℕ} {is qs : List ℤ} {area : List ℕ} {r s : AnswerA} {u v : List ℕ} where
   pub receive-a-call-once : ReceiveACall mode is qs area r u → ReceiveACall mode is qs area s v → (r ≡ s) × (u ≡ v)
   receive-a-call-once p q =
       let same = receive-a-once area (p .answer) (q .answer) u v mode is qs (p .promise) (q .promise) in
-      (p .told ∙ ap ofReceivedA (same .0) ∙ sym (q .told), same .1)
+      (p .told ∙ ap (λ (a : ReceivedA). answerAOf (ofReceivedA a)) (same .0) ∙ sym (q .told), same .1)
 
 module _ {mode : ℕ} {frame scheme : List ℕ} {is qs : List ℤ} {r s : Answer} {is1 qs1 is2 qs2 : List ℤ} where
   pub send-b-call-once : SendBCall mode frame scheme is qs r is1 qs1 → SendBCall mode frame scheme is qs s is2 qs2 → (r ≡ s) × (is1 ≡ is2) × (qs1 ≡ qs2)
   send-b-call-once p q =
       let same = send-b-once mode frame scheme is qs (p .answer) (q .answer) is1 qs1 is2 qs2 (p .promise) (q .promise) in
-      (p .told ∙ ap ofSent (same .0) ∙ sym (q .told), same .1, same .2)
+      (p .told ∙ ap (λ (a : Written). answerOf (ofWritten a)) (same .0) ∙ sym (q .told), same .1, same .2)
 
 module _ {mode size : ℕ} {scheme : List ℕ} {is qs : List ℤ} {area : List ℕ} {r s : Answer} {u v : List ℕ} where
   pub receive-b-call-once : ReceiveBCall mode size scheme is qs area r u → ReceiveBCall mode size scheme is qs area s v → (r ≡ s) × (u ≡ v)
   receive-b-call-once p q =
       let same = receive-b-once area (p .answer) (q .answer) u v mode size scheme is qs (p .promise) (q .promise) in
-      (p .told ∙ ap ofReceivedB (same .0) ∙ sym (q .told), same .1)
+      (p .told ∙ ap (λ (a : ReceivedB). answerOf (ofReceivedB a)) (same .0) ∙ sym (q .told), same .1)
 
 pub symbols-b-call-once : (mode size : ℕ) (scheme : List ℕ) {r s : Needed} → SymbolsBCall mode size scheme r → SymbolsBCall mode size scheme s → r ≡ s
 symbols-b-call-once mode size scheme p q = p ∙ sym q

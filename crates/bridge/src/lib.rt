@@ -1,14 +1,9 @@
 // The calls of the house as C functions, for programs in other languages to link: use/c/ortkaveq.h declares them for C and C++, and says what a caller owes.
 // A slice is passed as a pointer and then a length.
-//
-//   words      what encode and decode answered, as a caller in C reads it
-//   payloads   what sending and receiving a payload answered
 ghost use mathlib.Core.Path.{_≡_};
-ghost use Rattle.bridge.specs.Calls.{EncodeCall, DecodeCall, SendACall, ReceiveACall, SendBCall, ReceiveBCall, SymbolsBCall};
-
-mod payloads;
-mod words;
-
+ghost use Prim.Native.Nat.{_^_, _<_};
+ghost use Rattle.bridge.specs.Calls.{answerOf, answerAOf, EncodeCall, DecodeCall, SendACall, ReceiveACall, SendBCall, ReceiveBCall, SymbolsBCall};
+use answers::Told;
 use payload_b::plan;
 use payload_b::plan::Verdict;
 
@@ -22,7 +17,7 @@ pub struct Answer {
 
 // The same of receiving Payload A, with the count of protected bits that differ. It is no larger, so that it too comes back in registers.
 #[repr(C)]
-pub struct ReceivedAnswer {
+pub struct AnswerA {
     pub number: u32,
     pub mended: u16,
     pub protected: u16,
@@ -42,7 +37,7 @@ pub struct Needed {
 pub extern "C" fn ortkaveq_encode(code: u8, word: &[u8], out: &mut [u8]) -> Answer
     ensures { λ r. ⌜ EncodeCall code (now (word .entry)) (now (out .entry)) r (now (out .exit)) ⌝ }
 {
-    words::of_encoded(encoder::encode(code, word, out))
+    answer_of(answers::of_written(encoder::encode(code, word, out)))
 }
 
 // Writes the n bits of the codeword that differs from the n bits of word in at most t places, if there is one.
@@ -50,7 +45,7 @@ pub extern "C" fn ortkaveq_encode(code: u8, word: &[u8], out: &mut [u8]) -> Answ
 pub extern "C" fn ortkaveq_decode(code: u8, word: &[u8], out: &mut [u8]) -> Answer
     ensures { λ r. ⌜ DecodeCall code (now (word .entry)) (now (out .entry)) r (now (out .exit)) ⌝ }
 {
-    words::of_decoded(decoder::decode(code, word, out))
+    answer_of(answers::of_decoded(decoder::decode(code, word, out)))
 }
 
 // Sends a frame of Payload A: writes 512 elements of I and of Q.
@@ -58,20 +53,15 @@ pub extern "C" fn ortkaveq_decode(code: u8, word: &[u8], out: &mut [u8]) -> Answ
 pub extern "C" fn ortkaveq_send_a(mode: u8, frame: &[u8], i: &mut [i16], q: &mut [i16]) -> Answer
     ensures { λ r. ⌜ SendACall mode (now (frame .entry)) (now (i .entry)) (now (q .entry)) r (now (i .exit)) (now (q .exit)) ⌝ }
 {
-    payloads::of_sent(sender_a::send_a(mode, frame, i, q))
+    answer_of(answers::of_written(sender_a::send_a(mode, frame, i, q)))
 }
 
 // Receives a frame of Payload A from 512 elements of I and of Q: writes its bytes to the first of the area.
 #[no_mangle]
-pub extern "C" fn ortkaveq_receive_a(
-    mode: u8,
-    i: &[i16],
-    q: &[i16],
-    area: &mut [u8],
-) -> ReceivedAnswer
+pub extern "C" fn ortkaveq_receive_a(mode: u8, i: &[i16], q: &[i16], area: &mut [u8]) -> AnswerA
     ensures { λ r. ⌜ ReceiveACall mode (now (i .entry)) (now (q .entry)) (now (area .entry)) r (now (area .exit)) ⌝ }
 {
-    payloads::of_received_a(receiver_a::receive_a(mode, i, q, area))
+    answer_a_of(answers::of_received_a(receiver_a::receive_a(mode, i, q, area)))
 }
 
 // Sends a frame of Payload B by a scheme: writes 256 elements of I and of Q for each OFDM symbol needed.
@@ -85,7 +75,7 @@ pub extern "C" fn ortkaveq_send_b(
 ) -> Answer
     ensures { λ r. ⌜ SendBCall mode (now (frame .entry)) (now (scheme .entry)) (now (i .entry)) (now (q .entry)) r (now (i .exit)) (now (q .exit)) ⌝ }
 {
-    payloads::of_sent(sender_b::send_b(mode, frame, scheme, i, q))
+    answer_of(answers::of_written(sender_b::send_b(mode, frame, scheme, i, q)))
 }
 
 // Receives a frame of Payload B, of so many bytes: writes them to the first of the area.
@@ -100,7 +90,7 @@ pub extern "C" fn ortkaveq_receive_b(
 ) -> Answer
     ensures { λ r. ⌜ ReceiveBCall mode size (now (scheme .entry)) (now (i .entry)) (now (q .entry)) (now (area .entry)) r (now (area .exit)) ⌝ }
 {
-    payloads::of_received_b(receiver_b::receive_b(mode, size, scheme, i, q, area))
+    answer_of(answers::of_received_b(receiver_b::receive_b(mode, size, scheme, i, q, area)))
 }
 
 // How many OFDM symbols a frame of Payload B needs, of so many bytes, by a scheme: send and receive B ask for 256 elements of I and of Q for each.
@@ -110,8 +100,33 @@ pub extern "C" fn ortkaveq_symbols_b(mode: u8, size: usize, scheme: &[u8]) -> Ne
 {
     let verdict = plan::judged(mode, size, scheme);
     match verdict {
-        Verdict::Passes(symbols) => so_many(symbols as u32),
-        Verdict::Fails(why) => none_needed(payloads::refused(why)),
+        Verdict::Passes(plan) => so_many(plan.symbols as u32),
+        Verdict::Fails(why) => none_needed(answers::of_refusal(why)),
+    }
+}
+
+// What an answer tells, with one count.
+fn answer_of(t: Told) -> Answer
+    requires { ⌜ t .mended < 2 ^ 32 ⌝ }
+    ensures { λ r. ⌜ r ≡ answerOf t ⌝ }
+{
+    Answer {
+        number: t.number as u32,
+        mended: t.mended as u32,
+        place: t.place as u64,
+    }
+}
+
+// What receive A's answer tells, with both counts.
+fn answer_a_of(t: Told) -> AnswerA
+    requires { ⌜ (t .mended < 2 ^ 16) × (t .protected < 2 ^ 16) ⌝ }
+    ensures { λ r. ⌜ r ≡ answerAOf t ⌝ }
+{
+    AnswerA {
+        number: t.number as u32,
+        mended: t.mended as u16,
+        protected: t.protected as u16,
+        place: t.place as u64,
     }
 }
 
@@ -126,35 +141,13 @@ fn so_many(symbols: u32) -> Needed
     }
 }
 
-// No OFDM symbols, for this reason.
-fn none_needed(a: Answer) -> Needed
-    ensures { λ r. ⌜ r ≡ record { number = a .number; symbols = 0; place = a .place } ⌝ }
+// No OFDM symbols, for what a refusal tells.
+fn none_needed(t: Told) -> Needed
+    ensures { λ r. ⌜ r ≡ record { number = t .number; symbols = 0; place = t .place } ⌝ }
 {
     Needed {
-        number: a.number,
+        number: t.number as u32,
         symbols: 0,
-        place: a.place,
-    }
-}
-
-// Success, with this count.
-fn accepted(mended: u32) -> Answer
-    ensures { λ r. ⌜ r ≡ record { number = 0; mended = mended; place = 0 } ⌝ }
-{
-    Answer {
-        number: 0,
-        mended,
-        place: 0,
-    }
-}
-
-// A number and its place, with no count.
-fn at(number: u32, place: u64) -> Answer
-    ensures { λ r. ⌜ r ≡ record { number = number; mended = 0; place = place } ⌝ }
-{
-    Answer {
-        number,
-        mended: 0,
-        place,
+        place: t.place as u64,
     }
 }

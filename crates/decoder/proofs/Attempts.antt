@@ -1,6 +1,6 @@
 -- What the locator of a word's syndromes says of the codewords within t.
 -- Assumes nothing.
-use mathlib.Core.Path.{_≡_, refl, sym, ap, _∙_}
+use mathlib.Core.Path.{_≡_, sym, ap, _∙_}
 use mathlib.Core.Logic.{inl, inr}
 use mathlib.Core.List.{List, _++_}
 use Prim.Native.Nat.{ℕ, suc, _-_, _*_, _≤_, _<_}
@@ -9,18 +9,19 @@ use lib.ListN.{length, drop}
 use Rattle.algebra.proofs.Berlekamp.{Found}
 use Rattle.field.proofs.Elements.{GF512}
 use Rattle.field.proofs.Values.{series}
-use Rattle.bch.specs.Words.{Bits}
+use Rattle.bits.specs.Words.{Bits}
 use Rattle.bch.specs.Codes.{Code, Codeword, Within}
 use Rattle.bch.specs.Registers.{tops}
 use Rattle.decoder.specs.Locators.{Syndromes, Turned}
 use Rattle.bch.specs.Held.{Sound, codeOf}
 use Rattle.decoder.specs.Candidates.{leftover, Candidate, Settles}
-use Rattle.bch.specs.Answers.{numberOf, placeOf}
-use Rattle.bch.specs.Promise.{passes, Decodes, Mended}
-use Rattle.bch.specs.declared.Decoded.{Decoded}
-use Rattle.bch.specs.declared.Decoded.the-variants.{Accepted, Refused}
+use Rattle.answers.specs.Answers.{accepted, because}
+use Rattle.answers.specs.Checks.{passes}
+use Rattle.bch.specs.Promise.{Decodes, Mended}
+use Rattle.answers.specs.declared.Decoded.{Decoded}
+use Rattle.answers.specs.declared.Decoded.the-variants.{Accepted, Refused}
 use Rattle.bch.specs.declared.code.Held.{Held}
-use Rattle.bch.proofs.Distances.{differ-self}
+use Rattle.bits.proofs.Distances.{differ-self}
 use Rattle.decoder.proofs.Leftovers.{value-left}
 use Rattle.decoder.proofs.Completeness.{turned-bits, few, exact, complete}
 
@@ -53,16 +54,12 @@ pub settled : {c : Code} {word copy : List ℕ} {m : ℕ} → Candidate c word c
 settled {c} {word} {copy} candidate out (Accepted k) after s = inl (record {
   codeword = copy;
   within = record { codeword = s .1; near = (let n = candidate .near in let e = candidate .count in omega arith) };
-  number = refl;
-  place = refl;
-  count = s .0 ∙ candidate .count;
+  tells = ap (λ (n : ℕ). accepted n 0) (s .0 ∙ candidate .count);
   left = s .2;
 })
 settled {c} candidate out (Refused r) after s = inr (record {
   none = λ v within. s .1 (rw (candidate .only v within) at (within .codeword));
-  number = ap numberOf (s .0);
-  place = ap placeOf (s .0);
-  count = refl;
+  tells = ap because (s .0);
   left = s .2;
 })
 
@@ -71,8 +68,6 @@ pub clean : {c : Code} {word out after : List ℕ} → Codeword c word → after
 clean {c} {word} codeword e = record {
   codeword = word;
   within = record { codeword = codeword; near = (let z = differ-self word in omega arith) };
-  number = refl;
-  place = refl;
-  count = sym (differ-self word);
+  tells = ap (λ (n : ℕ). accepted n 0) (sym (differ-self word));
   left = e;
 }

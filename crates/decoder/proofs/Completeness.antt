@@ -15,11 +15,11 @@ use Rattle.algebra.proofs.Berlekamp.{Found}
 use Rattle.algebra.proofs.Words.{synd, value as at-inverse, few-places, root-of-error, error-of-root, len-is-weight}
 use Rattle.field.proofs.Elements.{GF512}
 use Rattle.field.proofs.Values.{a, series, a-nonzero, a-differ, a-inverse}
-use Rattle.bch.specs.Words.{Bits, differ}
+use Rattle.bits.specs.Words.{Bits, differ}
 use Rattle.bch.specs.Codes.{Code, Within}
 use Rattle.decoder.specs.Locators.{Syndromes, valueAt, Turned}
 use Rattle.bch.specs.Held.{Rooted}
-use Rattle.bch.proofs.Digits.{bits-at, bits-from}
+use Rattle.bits.proofs.Digits.{bits-at, bits-from}
 use Rattle.bch.proofs.Errors.{Pair, error, weight-error, synd-error, same-of-error, error-of-same}
 use Rattle.bch.proofs.Roots.{codeword-zero}
 open Field2 GF512 using (Element, zero as 𝟘, same?)

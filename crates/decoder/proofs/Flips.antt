@@ -13,11 +13,11 @@ use lib.ListN.{length, take, getD, set, length-set}
 use lib.Seq.{take-suc, take-suc-set, take-length, length-take-le, getD-set-same, getD-set-other}
 use Rattle.field.proofs.Elements.{GF512, element-of, of-0, of-zero}
 use mathlib.Core.Bool.{cond}
-use Rattle.bch.specs.Words.{Bits, differ}
+use Rattle.bits.specs.Words.{Bits, differ}
 use Rattle.decoder.specs.Locators.{valueAt, Turned}
 use Rattle.decoder.proofs.Summands.{Valued}
-use Rattle.bch.proofs.Digits.{bits-at}
-use Rattle.bch.proofs.Distances.{apart, apart-same, apart-other, differ-one, differ-append}
+use Rattle.bits.proofs.Digits.{bits-at}
+use Rattle.bits.proofs.Distances.{apart, apart-same, apart-other, differ-one, differ-append}
 
 -- ---- one bit
 
@@ -92,13 +92,15 @@ module _ (locator : List ℕ) (len : ℕ) (word : List ℕ) where
       few = omega (arith, u .few, hit-le v);
     }
       where
-        flipped-at : (j : ℕ) → j < i + 1 → Dec (j < i) → valueAt locator (suc len) (512 - length word) j ≡ GF512 .zero → getD (set copy i turned) j 0 ≡ 1 - getD word j 0
+        flipped-at : (j : ℕ) → j < i + 1 → Dec (j < i) → valueAt locator (suc len) (512 - length word) j ≡ GF512 .zero
+            → getD (set copy i turned) j 0 ≡ 1 - getD word j 0
         flipped-at j h (yes l) z = getD-set-other copy i j turned 0 (omega arith) ∙ u .flipped j l z
         flipped-at j h (no l) z =
             let e : j ≡ i = omega arith in
             rw e (getD-set-same copy i turned 0 (omega (arith, u .long)) ∙ (rw (eq-eqb v 0 (zero-at (rw e at z)))))
 
-        kept-at : (j : ℕ) → j < i + 1 → Dec (j < i) → valueAt locator (suc len) (512 - length word) j ≢ GF512 .zero → getD (set copy i turned) j 0 ≡ getD word j 0
+        kept-at : (j : ℕ) → j < i + 1 → Dec (j < i) → valueAt locator (suc len) (512 - length word) j ≢ GF512 .zero
+            → getD (set copy i turned) j 0 ≡ getD word j 0
         kept-at j h (yes l) z = getD-set-other copy i j turned 0 (omega arith) ∙ u .kept j l z
         kept-at j h (no l) z =
             let e : j ≡ i = omega arith in

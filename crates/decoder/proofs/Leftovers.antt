@@ -11,15 +11,15 @@ use Rattle.ground.proofs.Xors.{xor-cancel}
 use Rattle.algebra.proofs.Powers.{pow}
 use Rattle.field.proofs.Elements.{GF512}
 use Rattle.field.proofs.Values.{a, value, plus, value-append, value-plus}
-use Rattle.bch.specs.Words.{Bits, digits}
-use Rattle.bch.specs.Remainders.{remainder}
+use Rattle.bits.specs.Words.{Bits, digits}
+use Rattle.bits.specs.Remainders.{remainder}
 use Rattle.bch.specs.Codes.{Codeword, encoded}
-use Rattle.bch.specs.Registers.{tops, packed, whole}
+use Rattle.bch.specs.Registers.{tops, atTop}
 use Rattle.bch.specs.Held.{Sound, codeOf}
 use Rattle.decoder.specs.Candidates.{leftover}
 use Rattle.bch.specs.declared.code.Held.{Held}
-use Rattle.bch.proofs.Digits.{bits-take, bits-drop, length-digits}
-use Rattle.bch.proofs.Remainders.{remainder-lt}
+use Rattle.bits.proofs.Digits.{bits-take, bits-drop, length-digits}
+use Rattle.bits.proofs.Remainders.{remainder-lt}
 use Rattle.bch.proofs.Sounds.{scaled}
 use Rattle.bch.proofs.Tops.{digits-tops, packed-digits, tops-packed, tops-xor}
 use Rattle.bch.proofs.Roots.{value-remainder}
@@ -54,13 +54,13 @@ module _ {h : Held} (sound : Sound h) (w : List ℕ) (bits : Bits w) (long : len
   unfolding rest information
   rest-lt = remainder-lt (h .n - h .k) (codeOf h .generator) (sound .rooted .degree) information (bits-take (h .k) w bits)
 
-  left-is : leftover h w ≡ bitXor (rest * 2 ^ (192 - (h .n - h .k))) (packed behind)
+  left-is : leftover h w ≡ bitXor (rest * 2 ^ (192 - (h .n - h .k))) (atTop behind)
   unfolding leftover rest behind information
-  left-is = ap (λ (x : ℕ). bitXor x (packed (drop (h .k) w))) (scaled sound (take (h .k) w))
+  left-is = ap (λ (x : ℕ). bitXor x (atTop (drop (h .k) w))) (scaled sound (take (h .k) w))
 
-  tops-behind : tops (h .n - h .k) (packed behind) ≡ behind
+  tops-behind : tops (h .n - h .k) (atTop behind) ≡ behind
   tops-behind =
-      ap (λ (n : ℕ). tops n (packed behind)) (sym behind-long)
+      ap (λ (n : ℕ). tops n (atTop behind)) (sym behind-long)
       ∙ tops-packed behind behind-bits (let e = behind-long in omega (arith, sound .narrow))
 
   tops-expected : tops (h .n - h .k) (rest * 2 ^ (192 - (h .n - h .k))) ≡ expected
@@ -75,9 +75,9 @@ module _ {h : Held} (sound : Sound h) (w : List ℕ) (bits : Bits w) (long : len
 
   pub codeword-of-zero : leftover h w ≡ 0 → Codeword (codeOf h) w
   codeword-of-zero z =
-      let same : rest * 2 ^ (192 - (h .n - h .k)) ≡ packed behind
+      let same : rest * 2 ^ (192 - (h .n - h .k)) ≡ atTop behind
       = sym (xor-zero-r (rest * 2 ^ (192 - (h .n - h .k)))) ∙ ap (bitXor (rest * 2 ^ (192 - (h .n - h .k)))) (sym z ∙ left-is)
-      ∙ xor-cancel (rest * 2 ^ (192 - (h .n - h .k))) (packed behind) in
+      ∙ xor-cancel (rest * 2 ^ (192 - (h .n - h .k))) (atTop behind) in
       record {
         long = long;
         bits = bits;
@@ -92,7 +92,7 @@ module _ {h : Held} (sound : Sound h) (w : List ℕ) (bits : Bits w) (long : len
   unfolding expected
   zero-of-codeword c =
       left-is
-      ∙ ap (bitXor (rest * 2 ^ (192 - (h .n - h .k)))) (ap packed (behind-of c) ∙ packed-digits (h .n - h .k) rest (sound .narrow) rest-lt)
+      ∙ ap (bitXor (rest * 2 ^ (192 - (h .n - h .k)))) (ap atTop (behind-of c) ∙ packed-digits (h .n - h .k) rest (sound .narrow) rest-lt)
       ∙ xor-self (rest * 2 ^ (192 - (h .n - h .k)))
 
   -- ---- values
@@ -106,6 +106,7 @@ module _ {h : Held} (sound : Sound h) (w : List ℕ) (bits : Bits w) (long : len
       let x = pow GF512 a j in
       ap (value x) tops-left ∙ value-plus x expected behind (length-digits (h .n - h .k) rest ∙ sym behind-long)
       ∙ ap (λ u. GF512 .add u (value x behind))
-      (sym (value-remainder x (h .n - h .k) (codeOf h .generator) (sound .rooted .degree) (sound .rooted .roots j low high) information (bits-take (h .k) w bits)))
+      (sym (value-remainder x (h .n - h .k) (codeOf h .generator) (sound .rooted .degree)
+      (sound .rooted .roots j low high) information (bits-take (h .k) w bits)))
       ∙ sym (ap (value x) (sym (take-append-drop (h .k) w)) ∙ value-append x (take (h .k) w) (drop (h .k) w)
       ∙ ap (λ (n : ℕ). GF512 .add (GF512 .mul (value x (take (h .k) w)) (pow GF512 x n)) (value x (drop (h .k) w))) behind-long)

@@ -12,7 +12,7 @@ use Rattle.algebra.proofs.Berlekamp.{Found}
 use Rattle.field.specs.Tables.{logTable, powerTable}
 use Rattle.field.proofs.Elements.{GF512, element-of}
 use Rattle.field.proofs.Values.{a, series, value}
-use Rattle.bch.specs.Words.{differ}
+use Rattle.bits.specs.Words.{differ}
 use Rattle.decoder.specs.declared.locator.State.{State}
 
 -- the lent tables are the field's

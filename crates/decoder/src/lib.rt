@@ -11,9 +11,7 @@
 //
 // The copy is answered only if it is a codeword, by the remainder again, and differs in at most t places. What the algebra shows is that
 // no word within t of a codeword is missed.
-ghost use Rattle.bch.specs.Codes.{known};
-ghost use Rattle.bch.specs.Held.{codeOf, Sound};
-ghost use Rattle.bch.specs.Promise.{checkedBy, Decodes, Decoding};
+ghost use Rattle.bch.specs.Promise.{Decoding};
 
 mod locator;
 mod mending;
@@ -21,38 +19,17 @@ mod search;
 mod syndrome;
 mod terms;
 
-use bch::Decoded;
-use bch::Refusal;
-use bch::code;
-use bch::code::Held;
-use bch::code::Named;
-use bch::word;
+use answers::Decoded;
+use bch::checks;
+use bch::checks::Verdict;
 
 // Writes the n bits of the codeword that differs from the n bits of word in at most t places, if there is one.
 pub fn decode(code: u8, word: &[u8], out: &mut [u8]) -> Decoded
     ensures { λ r. ⌜ Decoding code (now (word .entry)) (now (out .entry)) r (now (out .exit)) ⌝ }
 {
-    let named = code::numbered(code);
-    match named {
-        Named::Known(c) => checked(c, word, out),
-        Named::Unknown => Decoded::Refused(Refusal::UnknownCode),
+    let verdict = checks::judged(code, true, word, out);
+    match verdict {
+        Verdict::Fails(why) => Decoded::Refused(why),
+        Verdict::Passes(c) => mending::answer(c, word, out),
     }
-}
-
-// The checks 2, 3 and 4, and then the answer.
-fn checked(c: Held, bits: &[u8], out: &mut [u8]) -> Decoded
-    requires { ⌜ Sound c ⌝ }
-    ensures { λ r. ⌜ Decodes (checkedBy (known (codeOf c)) (λ d. d .n) (now (bits .entry)) (now (out .entry))) (now (bits .entry)) (now (out .entry)) r (now (out .exit)) ⌝ }
-{
-    if bits.len() != c.n {
-        return Decoded::Refused(Refusal::WrongLength);
-    }
-    if out.len() < c.n {
-        return Decoded::Refused(Refusal::NoRoom);
-    }
-    let bad = word::first_bad(bits);
-    if bad < bits.len() {
-        return Decoded::Refused(Refusal::NotABit(bad));
-    }
-    mending::answer(c, bits, out)
 }

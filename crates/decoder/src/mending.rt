@@ -1,15 +1,16 @@
 // One word of a code that is held: itself where it is a codeword, else the copy that an attempt gives.
 ghost use mathlib.Core.Path.{_≡_};
 ghost use lib.ListN.{length};
-ghost use Rattle.bch.specs.Promise.{passes, Decodes};
-ghost use Rattle.bch.specs.Registers.{number};
+ghost use Rattle.answers.specs.Checks.{passes};
+ghost use Rattle.bch.specs.Promise.{Decodes};
+ghost use Rattle.bch.specs.Registers.{contents};
 ghost use Rattle.bch.specs.Held.{codeOf, Fitting};
 ghost use Rattle.decoder.specs.Candidates.{leftover, Attempt, Settles};
 use crate::locator;
 use crate::search;
 use crate::syndrome;
-use bch::Decoded;
-use bch::Refusal;
+use answers::Decoded;
+use answers::Refusal;
 use bch::code::Held;
 use bch::register;
 use bch::register::Register;
@@ -17,13 +18,13 @@ use bch::register::Register;
 // The remainder of the whole word: that of its first k bits, and the other bits added.
 fn leftover(c: Held, bits: &[u8]) -> Register
     requires { ⌜ Fitting c (c .n) (now bits) (now bits) ⌝ }
-    ensures { λ q. ⌜ number q ≡ leftover c (now (bits .entry)) ⌝ }
+    ensures { λ q. ⌜ contents q ≡ leftover c (now (bits .entry)) ⌝ }
 {
     let k = c.k;
     let generator = c.generator;
     register::xor(
         register::remainder(generator, &bits[..k]),
-        register::packed(&bits[k..]),
+        register::at_top(&bits[k..]),
     )
 }
 
@@ -51,12 +52,12 @@ pub(crate) fn answer(c: Held, bits: &[u8], out: &mut [u8]) -> Decoded
 // The copy that an attempt gives, if it gives one and that is a codeword.
 fn mend(c: Held, left: Register, bits: &[u8], copy: &mut [u8], out: &mut [u8]) -> Decoded
     requires { ⌜ Fitting c (c .n) (now bits) (now out) ⌝ }
-    requires { ⌜ (length (now copy) ≡ c .n) × (number left ≡ leftover c (now bits)) ⌝ }
+    requires { ⌜ (length (now copy) ≡ c .n) × (contents left ≡ leftover c (now bits)) ⌝ }
     ensures { λ r. ⌜ Decodes (passes (codeOf c)) (now (bits .entry)) (now (out .entry)) r (now (out .exit)) ⌝ }
 {
     let tried = attempt(c, left, bits, copy);
     match tried {
-        Tried::Nothing => Decoded::Refused(Refusal::Uncorrectable),
+        Tried::Nothing => Decoded::Refused(Refusal::Uncorrectable(0)),
         Tried::Flipped(m) => settle(c, m, copy, out),
     }
 }
@@ -77,13 +78,13 @@ fn settle(c: Held, m: usize, copy: &[u8], out: &mut [u8]) -> Decoded
         bytes::copy(copy, out);
         return Decoded::Accepted(m);
     }
-    Decoded::Refused(Refusal::Uncorrectable)
+    Decoded::Refused(Refusal::Uncorrectable(0))
 }
 
 // Flips in copy the places that the locator gives, unless it is longer than t.
 fn attempt(c: Held, left: Register, bits: &[u8], copy: &mut [u8]) -> Tried
     requires { ⌜ Fitting c (c .n) (now bits) (now copy) ⌝ }
-    requires { ⌜ (length (now copy) ≡ c .n) × (number left ≡ leftover c (now bits)) ⌝ }
+    requires { ⌜ (length (now copy) ≡ c .n) × (contents left ≡ leftover c (now bits)) ⌝ }
     ensures { λ r. ⌜ Attempt (codeOf c) (now (bits .entry)) r (now (copy .exit)) ⌝ }
 {
     let logs = field::log_table();

@@ -4,7 +4,7 @@ ghost use Prim.Native.Nat.{suc, _-_, _<_, _≤_};
 ghost use lib.Dec.{eqb};
 ghost use lib.ListN.{length, replicate};
 ghost use mathlib.Core.Bool.{cond};
-ghost use Rattle.bch.specs.Words.{Bits};
+ghost use Rattle.bits.specs.Words.{Bits};
 ghost use Rattle.decoder.specs.Locators.{Lent, Small, Plus, termAt, valueAt, Turned};
 use crate::terms;
 

@@ -6,7 +6,7 @@ ghost use Rattle.algebra.proofs.Powers.{pow};
 ghost use Rattle.field.specs.Tables.{powerTable};
 ghost use Rattle.field.proofs.Elements.{GF512, element-of};
 ghost use Rattle.field.proofs.Values.{a, value};
-ghost use Rattle.bch.specs.Registers.{number, tops};
+ghost use Rattle.bch.specs.Registers.{contents, tops};
 ghost use Rattle.decoder.specs.Locators.{Plus, Syndromes};
 use crate::terms;
 use bch::register;
@@ -25,7 +25,7 @@ fn term(powers: &[u16; 1022], b: u64, d: usize, sums: &mut [u16])
 // Adds to each sums[i] the value at a^(i + 1) of the polynomial whose r coefficients stand at the top of the register, highest power first.
 fn values(powers: &[u16; 1022], left: Register, r: usize, sums: &mut [u16])
     requires { ⌜ (now powers ≡ powerTable) × (r ≤ 192) ⌝ }
-    ensures { λ _. ⌜ Plus (λ i. value (pow GF512 a (suc i)) (tops r (number left))) (now (sums .entry)) (now (sums .exit)) ⌝ }
+    ensures { λ _. ⌜ Plus (λ i. value (pow GF512 a (suc i)) (tops r (contents left))) (now (sums .entry)) (now (sums .exit)) ⌝ }
 {
     let mut rest = left;
     let mut d: usize = r;
@@ -46,7 +46,7 @@ fn zeros() -> [u16; 32]
 // At i the value at a^(i+1), for each i below count.
 pub(crate) fn syndromes(powers: &[u16; 1022], left: Register, r: usize, count: usize) -> [u16; 32]
     requires { ⌜ (now powers ≡ powerTable) × (r ≤ 192) × (count ≤ 32) ⌝ }
-    ensures { λ s. ⌜ Syndromes (tops r (number left)) count s ⌝ }
+    ensures { λ s. ⌜ Syndromes (tops r (contents left)) count s ⌝ }
 {
     let mut out = zeros();
     values(powers, left, r, &mut out[0..count]);

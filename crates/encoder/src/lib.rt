@@ -2,45 +2,27 @@
 ghost use mathlib.Core.Path.{_≡_};
 ghost use mathlib.Core.List.{_++_};
 ghost use lib.ListN.{drop};
-ghost use Rattle.bch.specs.Codes.{known, encoded};
-ghost use Rattle.bch.specs.Held.{codeOf, Sound, Fitting};
-ghost use Rattle.bch.specs.Promise.{checkedBy, Encodes, Encoding};
-use bch::Encoded;
-use bch::Refusal;
-use bch::code;
+ghost use Rattle.bch.specs.Codes.{encoded};
+ghost use Rattle.bch.specs.Held.{codeOf, Fitting};
+ghost use Rattle.bch.specs.Promise.{Encoding};
+use answers::Written;
+use bch::checks;
+use bch::checks::Verdict;
 use bch::code::Held;
-use bch::code::Named;
 use bch::register;
-use bch::word;
 
 // Writes the n bits of the codeword for the k bits of word.
-pub fn encode(code: u8, word: &[u8], out: &mut [u8]) -> Encoded
+pub fn encode(code: u8, word: &[u8], out: &mut [u8]) -> Written
     ensures { λ r. ⌜ Encoding code (now (word .entry)) (now (out .entry)) r (now (out .exit)) ⌝ }
 {
-    let named = code::numbered(code);
-    match named {
-        Named::Known(c) => checked(c, word, out),
-        Named::Unknown => Encoded::Refused(Refusal::UnknownCode),
+    let verdict = checks::judged(code, false, word, out);
+    match verdict {
+        Verdict::Fails(why) => Written::Refused(why),
+        Verdict::Passes(c) => {
+            write(c, word, out);
+            Written::Accepted
+        }
     }
-}
-
-// The checks 2, 3 and 4, and then the codeword.
-fn checked(c: Held, bits: &[u8], out: &mut [u8]) -> Encoded
-    requires { ⌜ Sound c ⌝ }
-    ensures { λ r. ⌜ Encodes (checkedBy (known (codeOf c)) (λ d. d .k) (now (bits .entry)) (now (out .entry))) (now (bits .entry)) (now (out .entry)) r (now (out .exit)) ⌝ }
-{
-    if bits.len() != c.k {
-        return Encoded::Refused(Refusal::WrongLength);
-    }
-    if out.len() < c.n {
-        return Encoded::Refused(Refusal::NoRoom);
-    }
-    let bad = word::first_bad(bits);
-    if bad < bits.len() {
-        return Encoded::Refused(Refusal::NotABit(bad));
-    }
-    write(c, bits, out);
-    Encoded::Accepted
 }
 
 // The information, and behind it the remainder.

@@ -2,7 +2,7 @@
 -- Assumes nothing.
 use mathlib.Core.Path.{_≡_, refl, sym, ap, _∙_}
 use mathlib.Core.Bool.{Bool, true, false, cond, true≢false}
-use mathlib.Core.List.{List, [], _∷_}
+use mathlib.Core.List.{List, [], _∷_, _++_}
 use Prim.Native.Nat.{ℕ, zero, suc, _+_, _≤_, _<_}
 use native.Mathlib.Omega.{arith}
 use lib.ListN.{length, getD}
@@ -52,6 +52,29 @@ module _ {A : Type 0} (test : A → Bool) (d : A) where
 
       pub first-end : length xs ≤ i → i ≡ firstIn test xs
       first-end l = omega (arith, first xs .most)
+
+-- ---- two lists, one behind the other
+
+module _ {A : Type 0} (test : A → Bool) where
+  -- it is in the first
+  pub first-within : (xs ys : List A) → firstIn test xs < length xs → firstIn test (xs ++ ys) ≡ firstIn test xs
+  unfolding firstIn
+  first-within [] ys h = absurd (omega arith)
+  first-within (x ∷ xs) ys h = by (test x) _ _ _ h (first-within xs ys)
+    where
+      by : (found : Bool) (k m n : ℕ) → cond found 0 (suc k) < suc n → (k < n → m ≡ k) → cond found 0 (suc m) ≡ cond found 0 (suc k)
+      by true k m n h rest = refl
+      by false k m n h rest = ap suc (rest (omega arith))
+
+  -- the first has none
+  pub first-behind : (xs ys : List A) → firstIn test xs ≡ length xs → firstIn test (xs ++ ys) ≡ length xs + firstIn test ys
+  unfolding firstIn
+  first-behind [] ys h = omega arith
+  first-behind (x ∷ xs) ys h = by (test x) _ _ _ _ h (first-behind xs ys)
+    where
+      by : (found : Bool) (k m n l : ℕ) → cond found 0 (suc k) ≡ suc n → (k ≡ n → m ≡ n + l) → cond found 0 (suc m) ≡ suc n + l
+      by true k m n l h rest = absurd (omega arith)
+      by false k m n l h rest = let m = rest (omega arith) in omega arith
 
 -- ---- the numbers k, k + 1 and so on
 

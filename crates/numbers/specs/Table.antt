@@ -4,10 +4,10 @@ use mathlib.Core.Path.{_≡_}
 use mathlib.Core.List.{List, [], _∷_, _++_}
 use Prim.Native.Nat.{ℕ, _-_, _*_}
 use lib.ListN.{replicate, take}
-use Rattle.bch.specs.Words.{digits}
+use Rattle.bits.specs.Words.{digits}
 use Rattle.bch.specs.Codes.{code1, code2, code3, encoded}
 use Rattle.points.specs.Levels.{+0, +1, -1, +2, -2, -5}
-use Rattle.points.specs.Grid.{placeOf}
+use Rattle.symbols.specs.Grid.{carrierOf}
 use Rattle.points.specs.Constellations.{pointOf}
 use Rattle.points.specs.declared.Point.{Point}
 use Rattle.points.specs.declared.Point.the-variants.{At}
@@ -43,10 +43,10 @@ table =
     row (encoded code3 (lastOf 248)) (replicate 247 0 ++ digits 145 0o1126657202505666323017001652245562614435511600655) ∷
     row {A = ℕ → List ℕ → List Point} (λ mode frame. take 5 (pointsA mode frame))
     (λ mode frame. At -1 +0 ∷ At +1 +0 ∷ At -1 +0 ∷ At +1 +0 ∷ At +0 -1 ∷ []) ∷
-    row (placeOf 1) 151 ∷
-    row (placeOf 105) 255 ∷
-    row (placeOf 106) 1 ∷
-    row (placeOf 210) 105 ∷
+    row (carrierOf 1) 151 ∷
+    row (carrierOf 105) 255 ∷
+    row (carrierOf 106) 1 ∷
+    row (carrierOf 210) 105 ∷
     row (pointOf 3 0b100) (At +0 +2) ∷
     row (pointOf 3 0b010) (At +0 -2) ∷
     row (pointOf 9 0b101100101) (At -5 +1) ∷

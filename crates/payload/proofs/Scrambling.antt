@@ -10,7 +10,7 @@ use lib.Bits.{xor-lt}
 use lib.Dec.{lit<}
 use lib.ListN.{length, take, length-append}
 use lib.Seq.{take-at, length-take-le}
-use Rattle.bch.specs.Words.{Bits}
+use Rattle.bits.specs.Words.{Bits}
 use Rattle.ground.proofs.Xors.{xor-cancel}
 use Rattle.payload.specs.Scrambler.{formed, shifted, scrambledFrom, registerAfter}
 

@@ -1,5 +1,2 @@
-pub mod Bits
 pub mod Scrambler
-pub mod Grids
-pub mod Answers
-pub mod Checked
+pub mod Wire

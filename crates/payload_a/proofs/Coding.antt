@@ -1,4 +1,4 @@
--- The 784 bits sent for a frame of Payload A: its information, of a coded frame the two codewords, and their halves.
+-- The 784 bits sent for a frame of Payload A: its information, of a coded frame the two codewords; its two blocks, and the laws of the wire.
 -- Assumes nothing.
 use mathlib.Core.Path.{_≡_, refl, sym, ap, ap₂, _∙_}
 use mathlib.Core.List.{List, _++_, append-nil}
@@ -6,31 +6,35 @@ use Prim.Native.Nat.{ℕ, zero, suc, _+_, _*_, _≤_, _<_}
 use native.Mathlib.Omega.{arith}
 use borrow.Author.Tests.{ne-eqb}
 use lib.ListN.{length, take, drop, drop-of-length-le, length-append, length-drop, take-append-drop}
-use lib.Seq.{take-at, drop-at, length-take-le}
-use Rattle.bch.specs.Words.{Bits, differ}
+use lib.Seq.{take-at, take-all, drop-at, length-take-le}
+use Rattle.bits.specs.Words.{Bits}
 use Rattle.bch.specs.Codes.{code3, encoded, Codeword}
-use Rattle.bch.proofs.Digits.{bits-take, bits-drop}
-use Rattle.bch.proofs.Distances.{differ-zero}
-use Rattle.bch.proofs.Mendings.{bits-append, encoding-codeword}
-use Rattle.payload.specs.Bits.{bitsOf}
+use Rattle.bits.proofs.Digits.{bits-take, bits-drop, bits-append}
+use Rattle.bits.proofs.Distances.{differ-zero}
+use Rattle.bch.proofs.Mendings.{encoding-codeword}
+use Rattle.bits.specs.Bytes.{Bytes, bitsOf}
 use Rattle.payload.specs.Scrambler.{start, scrambled}
-use Rattle.payload_a.specs.Check.{checked}
+use Rattle.payload_a.specs.Check.{withCheck}
 use Rattle.payload_a.specs.CodedA.{bytesA, information, blocksA, codedA}
-use Rattle.payload_a.specs.PromiseA.{half, Fits}
-use Rattle.payload.proofs.Octets.{length-bitsOf, bits-bitsOf}
-use Rattle.payload_a.proofs.Checks.{length-checked, bits-checked}
-use Rattle.payload.proofs.Scrambling.{length-scrambled, bits-scrambled}
+use Rattle.payload.specs.Wire.{blockAt, Fits}
+use Rattle.payload.proofs.Wires.{parts-same, Lawful, plain, coded}
+use Rattle.bch.proofs.Codewords.{information-of}
+use Rattle.payload_a.specs.Segments.{blockBits}
+use Rattle.payload_a.specs.PromiseA.{wireA}
+use Rattle.bits.proofs.Octets.{length-bitsOf, bits-bitsOf, bitsOf-inj}
+use Rattle.payload_a.proofs.Checks.{length-checked, bits-checked, take-checked}
+use Rattle.payload.proofs.Scrambling.{length-scrambled, bits-scrambled, scrambled-inj}
 
 -- ---- a frame and its check, scrambled
 
 pub bits-information : (frame : List ℕ) → Bits (information frame)
 unfolding scrambled
-bits-information frame = bits-scrambled start (checked (bitsOf frame)) (bits-checked (bitsOf frame) (bits-bitsOf frame))
+bits-information frame = bits-scrambled start (withCheck (bitsOf frame)) (bits-checked (bitsOf frame) (bits-bitsOf frame))
 
 pub length-information : (frame : List ℕ) → length (information frame) ≡ 8 * length frame + 32
 unfolding scrambled
 length-information frame =
-    length-scrambled start (checked (bitsOf frame)) ∙ length-checked (bitsOf frame) ∙ ap (λ (n : ℕ). n + 32) (length-bitsOf frame)
+    length-scrambled start (withCheck (bitsOf frame)) ∙ length-checked (bitsOf frame) ∙ ap (λ (n : ℕ). n + 32) (length-bitsOf frame)
 
 -- ---- the two codewords of a coded frame
 
@@ -65,50 +69,90 @@ bits-codedA (suc zero) frame h l =
     (first-codeword frame l .bits) (second-codeword frame l .bits))
 bits-codedA (suc (suc mode)) frame h l = absurd (omega arith)
 
+length-twice : (m : ℕ) (frame : List ℕ) → length frame ≡ 58 → length (codedA (suc m) frame) ≡ 784
+length-twice m frame l =
+    ap length (coded-twice m frame) ∙ length-append (encoded code3 (take 248 (information frame))) (encoded code3 (drop 248 (information frame)))
+    ∙ ap₂ _+_ (first-codeword frame l .long) (second-codeword frame l .long)
+
 pub length-codedA : (mode : ℕ) (frame : List ℕ) → mode ≤ 1 → length frame ≡ bytesA mode → length (codedA mode frame) ≡ 784
 length-codedA zero frame h l = ap length (coded-uncoded frame) ∙ length-information frame ∙ ap (λ (n : ℕ). 8 * n + 32) l
-length-codedA (suc zero) frame h l =
-    ap length (coded-twice 0 frame) ∙ length-append (encoded code3 (take 248 (information frame))) (encoded code3 (drop 248 (information frame)))
-    ∙ ap₂ _+_ (first-codeword frame l .long) (second-codeword frame l .long)
+length-codedA (suc zero) frame h l = length-twice 0 frame l
 length-codedA (suc (suc mode)) frame h l = absurd (omega arith)
 
--- ---- halves of 784 bits
+-- ---- blocks of 784 bits
 
-pub first-half : (a b : List ℕ) → length a ≡ 392 → half 0 (a ++ b) ≡ a
-first-half a b e = take-at a b 392 e
+pub first-block : (a b : List ℕ) → length a ≡ blockBits → blockAt blockBits 0 (a ++ b) ≡ a
+first-block a b e = take-at a b blockBits e
 
-pub second-half : (a b : List ℕ) → length a ≡ 392 → half 1 (a ++ b) ≡ b
-second-half a b e = drop-at a b 392 e
+pub second-block : (a b : List ℕ) → length a ≡ blockBits → length b ≡ blockBits → blockAt blockBits 1 (a ++ b) ≡ b
+second-block a b e f = ap (take blockBits) (drop-at a b blockBits e) ∙ take-all blockBits b (omega arith)
 
--- what is written to a list of 392 fills it
-pub filled : (v out : List ℕ) → length out ≡ 392 → v ++ drop 392 out ≡ v
-filled v out l = ap (λ (rest : List ℕ). v ++ rest) (drop-of-length-le out {i = 392} (omega arith)) ∙ append-nil v
+-- what is written to a list as long as a block fills it
+pub filled : (v out : List ℕ) → length out ≡ blockBits → v ++ drop blockBits out ≡ v
+filled v out l = ap (λ (rest : List ℕ). v ++ rest) (drop-of-length-le out {i = blockBits} (omega arith)) ∙ append-nil v
 
--- what holds of both halves
-pub each-half : (P : ℕ → Type 0) → P 0 → P 1 → (block : ℕ) → block < 2 → P block
-each-half P p q zero l = p
-each-half P p q (suc zero) l = q
-each-half P p q (suc (suc block)) l = absurd (omega arith)
+-- what holds of both blocks
+pub each-block : (P : ℕ → Type 0) → P 0 → P 1 → (block : ℕ) → block < 2 → P block
+each-block P p q zero l = p
+each-block P p q (suc zero) l = q
+each-block P p q (suc (suc block)) l = absurd (omega arith)
 
--- words that differ in no place of either half
-halves-same : (v w : List ℕ) → ((block : ℕ) → block < 2 → differ (half block v) (half block w) ≤ 0) → v ≡ w
-halves-same v w near =
-    let a : take 392 v ≡ take 392 w = differ-zero (take 392 v) (take 392 w) (omega (arith, near 0 (omega arith))) in
-    let b : drop 392 v ≡ drop 392 w = differ-zero (drop 392 v) (drop 392 w) (omega (arith, near 1 (omega arith))) in
-    sym (take-append-drop 392 v) ∙ ap₂ _++_ a b ∙ take-append-drop 392 w
+-- ---- the blocks of a coded frame are the codewords
 
--- ---- the halves of a frame
-
--- of a coded one, the codewords
 module _ (m : ℕ) (frame : List ℕ) (long : length frame ≡ 58) where
-  pub half-0 : half 0 (codedA (suc m) frame) ≡ encoded code3 (take 248 (information frame))
-  half-0 = ap (half 0) (coded-twice m frame) ∙ first-half (encoded code3 (take 248 (information frame))) _ (first-codeword frame long .long)
+  pub block-0 : blockAt blockBits 0 (codedA (suc m) frame) ≡ encoded code3 (take 248 (information frame))
+  block-0 = ap (blockAt blockBits 0) (coded-twice m frame) ∙ first-block (encoded code3 (take 248 (information frame))) _ (first-codeword frame long .long)
 
-  pub half-1 : half 1 (codedA (suc m) frame) ≡ encoded code3 (drop 248 (information frame))
-  half-1 =
-      ap (half 1) (coded-twice m frame)
-      ∙ second-half (encoded code3 (take 248 (information frame))) (encoded code3 (drop 248 (information frame))) (first-codeword frame long .long)
+  pub block-1 : blockAt blockBits 1 (codedA (suc m) frame) ≡ encoded code3 (drop 248 (information frame))
+  block-1 =
+      ap (blockAt blockBits 1) (coded-twice m frame)
+      ∙ second-block (encoded code3 (take 248 (information frame))) (encoded code3 (drop 248 (information frame)))
+      (first-codeword frame long .long) (second-codeword frame long .long)
+
+  pub block-codeword : (b : ℕ) → b < 2 → Codeword code3 (blockAt blockBits b (codedA (suc m) frame))
+  block-codeword =
+      each-block (λ b. Codeword code3 (blockAt blockBits b (codedA (suc m) frame)))
+      (rw block-0 (first-codeword frame long)) (rw block-1 (second-codeword frame long))
+
+-- ---- what is sent says which frame it was
+
+-- frames as long, with the same information
+same-frame : (f g : List ℕ) → length f ≡ length g → Bytes f → Bytes g → information f ≡ information g → f ≡ g
+unfolding scrambled
+same-frame f g long bf bg e =
+    let checks : withCheck (bitsOf f) ≡ withCheck (bitsOf g) = scrambled-inj start (withCheck (bitsOf f)) (withCheck (bitsOf g)) e in
+    let bits : length (bitsOf f) ≡ length (bitsOf g) = length-bitsOf f ∙ ap (λ (n : ℕ). 8 * n) long ∙ sym (length-bitsOf g) in
+    bitsOf-inj f g bf bg (sym (take-checked (bitsOf f) (length (bitsOf f)) refl) ∙ ap₂ take bits checks ∙ take-checked (bitsOf g) (length (bitsOf g)) refl)
+
+-- coded frames with the same codewords
+same-information : (m : ℕ) (f g : List ℕ) → length f ≡ 58 → length g ≡ 58 → codedA (suc m) f ≡ codedA (suc m) g → information f ≡ information g
+same-information m f g lf lg e =
+    let told : (v w : List ℕ) → length v ≡ 248 → length w ≡ 248 → encoded code3 v ≡ encoded code3 w → v ≡ w
+    = λ v w lv lw s. sym (information-of code3 v lv) ∙ ap (take 248) s ∙ information-of code3 w lw in
+    let first : take 248 (information f) ≡ take 248 (information g)
+    = told _ _ (first-long f lf) (first-long g lg) (sym (block-0 m f lf) ∙ ap (blockAt blockBits 0) e ∙ block-0 m g lg) in
+    let second : drop 248 (information f) ≡ drop 248 (information g)
+    = told _ _ (second-long f lf) (second-long g lg) (sym (block-1 m f lf) ∙ ap (blockAt blockBits 1) e ∙ block-1 m g lg) in
+    sym (take-append-drop 248 (information f)) ∙ ap₂ _++_ first second ∙ take-append-drop 248 (information g)
+
+-- the laws of the wire
+pub lawful-a : (mode : ℕ) → Lawful (wireA mode)
+lawful-a zero =
+    record {
+      blocks = plain refl;
+      long = λ f l. length-codedA 0 f (omega arith) l;
+      told = λ f g lf lg bf bg e. same-frame f g (lf ∙ sym lg) bf bg (sym (coded-uncoded f) ∙ e ∙ coded-uncoded g);
+    }
+lawful-a (suc m) =
+    rw (ne-eqb (suc m) 0 (λ e. omega arith)) (record {
+      blocks = coded 3 code3 refl refl refl (λ f l b. block-codeword m f l b);
+      long = λ f l. length-twice m f l;
+      told = λ f g lf lg bf bg e. same-frame f g (lf ∙ sym lg) bf bg (same-information m f g lf lg e);
+    })
 
 -- bits that an uncoded frame fits are its information
-pub fits-uncoded : (w frame : List ℕ) → Fits 0 w frame → information frame ≡ w
-fits-uncoded w frame fits = sym (coded-uncoded frame) ∙ halves-same (codedA 0 frame) w (fits .near)
+pub fits-uncoded : (w frame : List ℕ) → length w ≡ 784 → Fits (wireA 0) w frame → information frame ≡ w
+fits-uncoded w frame as-many fits =
+    sym (coded-uncoded frame)
+    ∙ parts-same blockBits 2 (codedA 0 frame) w (length-codedA 0 frame (omega arith) (fits .long)) as-many
+    (λ b l. let z = fits .near b l in differ-zero (blockAt blockBits b (codedA 0 frame)) (blockAt blockBits b w) (omega arith))

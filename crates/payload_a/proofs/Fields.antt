@@ -6,12 +6,12 @@ use Prim.Native.Nat.{ℕ, _+_}
 use native.Mathlib.Omega.{arith}
 use lib.ListN.{length, take, drop, length-append, length-drop, take-append-drop}
 use lib.Seq.{take-at, drop-at, drop-drop, length-take-le}
-use Rattle.bch.specs.Words.{Bits, differ}
-use Rattle.bch.proofs.Digits.{bits-take, bits-drop}
-use Rattle.bch.proofs.Distances.{differ-append}
-use Rattle.bch.proofs.Mendings.{bits-append}
+use Rattle.bits.specs.Words.{Bits, differ}
+use Rattle.bits.proofs.Digits.{bits-take, bits-drop}
+use Rattle.bits.proofs.Distances.{differ-append}
+use Rattle.bits.proofs.Digits.{bits-append}
 use Rattle.payload_a.specs.Segments.{field1, field2, field3, symbolOf, carriedBy, protectedIn}
-use Rattle.payload.proofs.Copies.{part-long}
+use Rattle.bits.proofs.Copies.{part-long}
 
 -- ---- an OFDM symbol made of two segments
 
@@ -49,26 +49,26 @@ module _ (s u : List ℕ) (ls : length s ≡ 196) (lu : length u ≡ 196) where
   unfolding protectedIn symbolOf
   protected-symbol = ap₂ (λ (x y : List ℕ). field1 ++ x ++ y) (ap (take 10) from-field) (ap (take 8) from-last)
 
--- ---- half of 784 bits as an OFDM symbol
+-- ---- a block as an OFDM symbol
 
 abbrev pub sent : List ℕ → List ℕ
-sent half = symbolOf (take 196 half) (drop 196 half)
+sent block = symbolOf (take 196 block) (drop 196 block)
 
-module _ (half : List ℕ) (l : length half ≡ 392) where
-  first-long : length (take 196 half) ≡ 196
-  first-long = length-take-le 196 half (omega arith)
+module _ (block : List ℕ) (l : length block ≡ 392) where
+  first-long : length (take 196 block) ≡ 196
+  first-long = length-take-le 196 block (omega arith)
 
-  second-long : length (drop 196 half) ≡ 196
+  second-long : length (drop 196 block) ≡ 196
   second-long = simp length-drop (omega arith)
 
-  pub length-sent : length (sent half) ≡ 420
-  length-sent = length-symbol (take 196 half) (drop 196 half) first-long second-long
+  pub length-sent : length (sent block) ≡ 420
+  length-sent = length-symbol (take 196 block) (drop 196 block) first-long second-long
 
-  pub carried-sent : carriedBy (sent half) ≡ half
-  carried-sent = carried-symbol (take 196 half) (drop 196 half) first-long second-long ∙ take-append-drop 196 half
+  pub carried-sent : carriedBy (sent block) ≡ block
+  carried-sent = carried-symbol (take 196 block) (drop 196 block) first-long second-long ∙ take-append-drop 196 block
 
-  pub protected-sent : protectedIn (sent half) ≡ field1 ++ field2 ++ field3
-  protected-sent = protected-symbol (take 196 half) (drop 196 half) first-long second-long
+  pub protected-sent : protectedIn (sent block) ≡ field1 ++ field2 ++ field3
+  protected-sent = protected-symbol (take 196 block) (drop 196 block) first-long second-long
 
 -- ---- an OFDM symbol as received
 

@@ -1,4 +1,4 @@
--- Both OFDM symbols: 784 bits are sent half by half and received symbol by symbol, and what is sent carries them.
+-- Both OFDM symbols: 784 bits are sent block by block and received symbol by symbol, and what is sent carries them.
 -- Assumes nothing.
 use mathlib.Core.Path.{_≡_, sym, ap, ap₂, _∙_}
 use mathlib.Core.List.{List, _++_}
@@ -6,10 +6,10 @@ use Prim.Native.Nat.{ℕ, _+_}
 use native.Mathlib.Omega.{arith}
 use lib.ListN.{length, take, drop, length-append, length-drop, take-append-drop}
 use lib.Seq.{take-all, take-at, drop-at, drop-drop, take-append-le, drop-append-le, length-take-le}
-use Rattle.bch.specs.Words.{Bits, differ}
-use Rattle.bch.proofs.Digits.{bits-take, bits-drop}
-use Rattle.bch.proofs.Distances.{differ-append}
-use Rattle.bch.proofs.Mendings.{bits-append}
+use Rattle.bits.specs.Words.{Bits, differ}
+use Rattle.bits.proofs.Digits.{bits-take, bits-drop}
+use Rattle.bits.proofs.Distances.{differ-append}
+use Rattle.bits.proofs.Digits.{bits-append}
 use Rattle.payload_a.specs.Segments.{field1, field2, field3, symbolOf, segment, framed, carriedBy, protectedIn, carried, protected, fields}
 use Rattle.payload_a.proofs.Fields.{sent, bits-symbol, length-sent, carried-sent, protected-sent, length-carried-by, length-protected-in}
 
@@ -41,7 +41,8 @@ pub length-protected : (bits : List ℕ) → length bits ≡ 840 → length (pro
 unfolding protected
 length-protected bits l =
     length-append (protectedIn (take 420 bits)) (protectedIn (drop 420 bits))
-    ∙ ap₂ _+_ (length-protected-in (take 420 bits) (length-take-le 420 bits (omega arith))) (length-protected-in (drop 420 bits) (simp length-drop (omega arith)))
+    ∙ ap₂ _+_ (length-protected-in (take 420 bits) (length-take-le 420 bits (omega arith)))
+    (length-protected-in (drop 420 bits) (simp length-drop (omega arith)))
 
 -- ---- as sent
 
@@ -63,30 +64,30 @@ framed-append a b la lb =
     ap₂ _++_ (ap₂ symbolOf (take-append-le 196 a b (omega arith)) s1) (ap₂ symbolOf (ap (take 196) d) s3)
 
 module _ (bits : List ℕ) (l : length bits ≡ 784) where
-  pub first-half-long : length (take 392 bits) ≡ 392
-  first-half-long = length-take-le 392 bits (omega arith)
+  first-block-long : length (take 392 bits) ≡ 392
+  first-block-long = length-take-le 392 bits (omega arith)
 
-  pub second-half-long : length (drop 392 bits) ≡ 392
-  second-half-long = simp length-drop (omega arith)
+  second-block-long : length (drop 392 bits) ≡ 392
+  second-block-long = simp length-drop (omega arith)
 
-  pub framed-halves : framed bits ≡ sent (take 392 bits) ++ sent (drop 392 bits)
-  framed-halves = ap framed (sym (take-append-drop 392 bits)) ∙ framed-append (take 392 bits) (drop 392 bits) first-half-long second-half-long
+  pub framed-blocks : framed bits ≡ sent (take 392 bits) ++ sent (drop 392 bits)
+  framed-blocks = ap framed (sym (take-append-drop 392 bits)) ∙ framed-append (take 392 bits) (drop 392 bits) first-block-long second-block-long
 
   pub length-framed : length (framed bits) ≡ 840
   length-framed =
-      ap length framed-halves ∙ length-append (sent (take 392 bits)) (sent (drop 392 bits))
-      ∙ ap₂ _+_ (length-sent (take 392 bits) first-half-long) (length-sent (drop 392 bits) second-half-long)
+      ap length framed-blocks ∙ length-append (sent (take 392 bits)) (sent (drop 392 bits))
+      ∙ ap₂ _+_ (length-sent (take 392 bits) first-block-long) (length-sent (drop 392 bits) second-block-long)
 
   pub carried-framed : carried (framed bits) ≡ bits
   carried-framed =
-      ap carried framed-halves
-      ∙ carried-append (sent (take 392 bits)) (sent (drop 392 bits)) (length-sent (take 392 bits) first-half-long)
-      ∙ ap₂ _++_ (carried-sent (take 392 bits) first-half-long) (carried-sent (drop 392 bits) second-half-long)
+      ap carried framed-blocks
+      ∙ carried-append (sent (take 392 bits)) (sent (drop 392 bits)) (length-sent (take 392 bits) first-block-long)
+      ∙ ap₂ _++_ (carried-sent (take 392 bits) first-block-long) (carried-sent (drop 392 bits) second-block-long)
       ∙ take-append-drop 392 bits
 
   pub protected-framed : protected (framed bits) ≡ fields
   unfolding fields
   protected-framed =
-      ap protected framed-halves
-      ∙ protected-append (sent (take 392 bits)) (sent (drop 392 bits)) (length-sent (take 392 bits) first-half-long)
-      ∙ ap₂ _++_ (protected-sent (take 392 bits) first-half-long) (protected-sent (drop 392 bits) second-half-long)
+      ap protected framed-blocks
+      ∙ protected-append (sent (take 392 bits)) (sent (drop 392 bits)) (length-sent (take 392 bits) first-block-long)
+      ∙ ap₂ _++_ (protected-sent (take 392 bits) first-block-long) (protected-sent (drop 392 bits) second-block-long)

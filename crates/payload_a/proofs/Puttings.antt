@@ -7,7 +7,7 @@ use native.Mathlib.Omega.{arith}
 use borrow.Author.Tests.{le-leb, lt-leb}
 use lib.ListN.{length, take, drop, replicate, length-replicate}
 use lib.Seq.{take-all}
-use Rattle.payload.proofs.Copies.{put-behind}
+use Rattle.bits.proofs.Copies.{put-behind}
 use Rattle.payload_a.specs.Segments.{putAt}
 
 module _ (out bits : List ℕ) (at : ℕ) where

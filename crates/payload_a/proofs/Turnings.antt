@@ -6,15 +6,14 @@ use Prim.Native.Nat.{ℕ, zero, suc, _+_, _*_, _<_}
 use native.Mathlib.Omega.{arith}
 use lib.IntN.{ℤ}
 use lib.ListN.{length}
-use Rattle.bch.specs.Words.{Bits}
-use Rattle.bch.proofs.Digits.{bits-at}
+use Rattle.bits.specs.Words.{Bits}
 use Rattle.points.specs.declared.Point.the-variants.{At}
 use Rattle.points.specs.Constellations.{levelI, levelQ}
 use Rattle.points.specs.Dqpsk.{phases, turn, phasePoint, turnedFrom, turned, dibits, strayAt}
 use Rattle.points.proofs.Turns.{turn-lt, length-turned, dibits-turned, legal-turned, length-dibits}
-use Rattle.payload.specs.Grids.{placed, received}
-use Rattle.payload.proofs.Readings.{length-received}
-use Rattle.payload.proofs.Placings.{Points, received-placed}
+use Rattle.symbols.specs.Grids.{placed, received}
+use Rattle.symbols.proofs.Readings.{length-received}
+use Rattle.symbols.proofs.Placings.{Points, received-placed}
 
 -- ---- bits are sent and come back
 
@@ -45,7 +44,7 @@ module _ (bits : List ℕ) (e : length bits ≡ 840) where
   none-stray = ap strayAt points-back ∙ legal-turned bits ∙ length-turned bits 420 e
 
   pub bits-back : Bits bits → dibits (received 2 (placed levelI 2 (turned bits)) (placed levelQ 2 (turned bits))) ≡ bits
-  bits-back each = ap dibits points-back ∙ dibits-turned bits 420 e (λ k h. bits-at bits each k)
+  bits-back each = ap dibits points-back ∙ dibits-turned bits 420 e each
 
 -- ---- points are read, whatever they are
 

@@ -1,6 +1,6 @@
 -- The checks 1, 2, 3, 7 and 8 of Payload A, one after the other: what a test of the code says of `sendChecked`, `receiveChecked` and `pointsChecked`.
 -- Assumes nothing.
-use mathlib.Core.Path.{_≡_, refl}
+use mathlib.Core.Path.{_≡_}
 use mathlib.Core.Logic.{_≢_}
 use mathlib.Core.Bool.{true, false}
 use mathlib.Core.List.{List}
@@ -9,38 +9,25 @@ use borrow.Author.Tests.{le-leb, lt-leb, lt-ltb, le-ltb, eq-eqb, ne-eqb}
 use lib.IntN.{ℤ}
 use lib.ListN.{length}
 use Rattle.points.specs.Dqpsk.{strayAt}
-use Rattle.payload.specs.Grids.{received, indexOf, firstFilled}
-use Rattle.payload.specs.Answers.{numberOf, placeOf}
-use Rattle.payload.specs.Checked.{Checked, fails, passes, room}
-use Rattle.payload.specs.declared.Refusal.{Refusal}
+use Rattle.symbols.specs.Grids.{received, indexOf, firstOccupied, room}
+use Rattle.answers.specs.Checks.{Checked, fails, passes}
 use Rattle.payload_a.specs.CodedA.{bytesA}
-use Rattle.payload_a.specs.PromiseA.{sendChecked, pointsChecked, receiveChecked, RefusedWith}
-use Rattle.payload_a.specs.declared.ReceivedA.the-variants.{Refused}
-
--- a refusal says its number and place, has no counts and changes nothing
-pub refused : (r : Refusal) {place : ℕ} {area area' : List ℕ} → placeOf r ≡ place → area' ≡ area → RefusedWith (numberOf r) place area (Refused r) area'
-refused r e l = record { numbered = refl; placed = e; mended = refl; protected = refl; left = l }
+use Rattle.payload_a.specs.PromiseA.{sendChecked, pointsChecked, receiveChecked}
 
 -- ---- send
 
-module _ (P : Checked → Type 0) (mode : ℕ) (frame : List ℕ) (is qs : List ℤ) where
-  pub unknown-mode : 1 < mode → P (fails 1 0) → P (sendChecked mode frame is qs)
-  unknown-mode l p = rw (lt-leb mode 1 l) p
-
+module _ (P : Checked Unit → Type 0) (mode : ℕ) (frame : List ℕ) (is qs : List ℤ) where
   module _ (known : mode ≤ 1) where
     pub wrong-length : length frame ≢ bytesA mode → P (fails 2 0) → P (sendChecked mode frame is qs)
     wrong-length n p = rw (le-leb mode 1 known, ne-eqb (length frame) (bytesA mode) n) p
 
     module _ (long : length frame ≡ bytesA mode) where
-      pub no-room : false ≡ room 512 is qs → P (fails 3 0) → P (sendChecked mode frame is qs)
-      no-room e p = rw (le-leb mode 1 known, eq-eqb (length frame) (bytesA mode) long, ← e) p
-
-      pub sendable : true ≡ room 512 is qs → P passes → P (sendChecked mode frame is qs)
+      pub sendable : true ≡ room 512 is qs → P (passes tt) → P (sendChecked mode frame is qs)
       sendable e p = rw (le-leb mode 1 known, eq-eqb (length frame) (bytesA mode) long, ← e) p
 
 -- ---- receive
 
-module _ (P : Checked → Type 0) (mode : ℕ) (is qs : List ℤ) (area : List ℕ) where
+module _ (P : Checked Unit → Type 0) (mode : ℕ) (is qs : List ℤ) (area : List ℕ) where
   pub no-mode : 1 < mode → P (fails 1 0) → P (receiveChecked mode is qs area)
   no-mode l p = rw (lt-leb mode 1 l) p
 
@@ -57,13 +44,13 @@ module _ (P : Checked → Type 0) (mode : ℕ) (is qs : List ℤ) (area : List �
 
 -- ---- points
 
-module _ (P : Checked → Type 0) (is qs : List ℤ) where
-  pub some-filled : firstFilled is qs 0 512 < 512 → P (fails 7 (firstFilled is qs 0 512)) → P (pointsChecked is qs)
-  some-filled l p = rw (lt-ltb (firstFilled is qs 0 512) 512 l) p
+module _ (P : Checked Unit → Type 0) (is qs : List ℤ) where
+  pub some-occupied : firstOccupied is qs 0 512 < 512 → P (fails 7 (firstOccupied is qs 0 512)) → P (pointsChecked is qs)
+  some-occupied l p = rw (lt-ltb (firstOccupied is qs 0 512) 512 l) p
 
-  module _ (empty : 512 ≤ firstFilled is qs 0 512) where
+  module _ (empty : 512 ≤ firstOccupied is qs 0 512) where
     pub some-stray : strayAt (received 2 is qs) < 420 → P (fails 8 (indexOf (strayAt (received 2 is qs)))) → P (pointsChecked is qs)
-    some-stray l p = rw (le-ltb (firstFilled is qs 0 512) 512 empty, lt-ltb (strayAt (received 2 is qs)) 420 l) p
+    some-stray l p = rw (le-ltb (firstOccupied is qs 0 512) 512 empty, lt-ltb (strayAt (received 2 is qs)) 420 l) p
 
-    pub legal : 420 ≤ strayAt (received 2 is qs) → P passes → P (pointsChecked is qs)
-    legal l p = rw (le-ltb (firstFilled is qs 0 512) 512 empty, le-ltb (strayAt (received 2 is qs)) 420 l) p
+    pub legal : 420 ≤ strayAt (received 2 is qs) → P (passes tt) → P (pointsChecked is qs)
+    legal l p = rw (le-ltb (firstOccupied is qs 0 512) 512 empty, le-ltb (strayAt (received 2 is qs)) 420 l) p

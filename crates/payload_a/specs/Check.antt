@@ -3,8 +3,8 @@
 -- Assumes nothing.
 use mathlib.Core.List.{List, _++_}
 use Prim.Native.Nat.{ℕ}
-use Rattle.bch.specs.Words.{digits}
-use Rattle.bch.specs.Remainders.{remainder}
+use Rattle.bits.specs.Words.{digits}
+use Rattle.bits.specs.Remainders.{remainder}
 
 -- x^32+x^26+x^23+x^22+x^16+x^12+x^11+x^10+x^8+x^7+x^5+x^4+x^2+x+1
 abbrev pub checkPolynomial : ℕ
@@ -14,5 +14,5 @@ unfoldable pub checkOf : List ℕ → ℕ
 checkOf bits = remainder 32 checkPolynomial bits
 
 -- a message and its check, highest power first
-unfoldable pub checked : List ℕ → List ℕ
-checked bits = bits ++ digits 32 (checkOf bits)
+unfoldable pub withCheck : List ℕ → List ℕ
+withCheck bits = bits ++ digits 32 (checkOf bits)

@@ -10,11 +10,11 @@ use Rattle.bch.specs.Codes.{code3, encoded}
 use Rattle.points.specs.declared.Point.{Point}
 use Rattle.points.specs.Constellations.{levelI, levelQ}
 use Rattle.points.specs.Dqpsk.{turned}
-use Rattle.payload.specs.Bits.{bitsOf}
+use Rattle.bits.specs.Bytes.{bitsOf}
 use Rattle.payload.specs.Scrambler.{scrambled}
-use Rattle.payload_a.specs.Check.{checked}
+use Rattle.payload_a.specs.Check.{withCheck}
 use Rattle.payload_a.specs.Segments.{framed}
-use Rattle.payload.specs.Grids.{placed}
+use Rattle.symbols.specs.Grids.{placed}
 
 -- mode 0 is uncoded, 94 bytes; mode 1 is coded, 58 bytes
 abbrev pub bytesA : ℕ → ℕ
@@ -22,11 +22,11 @@ bytesA mode = cond (eqb mode 0) 94 58
 
 -- a frame and its check, scrambled: the scrambler runs over both, before BCH
 abbrev pub information : List ℕ → List ℕ
-information frame = scrambled (checked (bitsOf frame))
+information frame = scrambled (withCheck (bitsOf frame))
 
 -- two blocks of 248, each coded to 392
 unfoldable pub blocksA : List ℕ → List ℕ
-blocksA bits = encoded code3 (take 248 bits) ++ encoded code3 (drop 248 bits)
+blocksA bits = encoded code3 (take (code3 .k) bits) ++ encoded code3 (drop (code3 .k) bits)
 
 -- the 784 bits sent for a frame, protected fields left out
 unfoldable pub codedA : ℕ → List ℕ → List ℕ

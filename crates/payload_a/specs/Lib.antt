@@ -1,5 +1,4 @@
 pub mod Check
 pub mod Segments
 pub mod CodedA
-pub mod AnswersA
 pub mod PromiseA

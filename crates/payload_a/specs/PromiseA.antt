@@ -5,111 +5,92 @@ use mathlib.Core.Path.{_≡_}
 use mathlib.Core.Logic.{_⊎_}
 use mathlib.Core.Bool.{cond, _&&_}
 use mathlib.Core.List.{List, _++_}
-use Prim.Native.Nat.{ℕ, _≤_, _<_}
+use Prim.Native.Nat.{ℕ, _*_, _<_}
 use lib.Dec.{eqb, leb, ltb}
 use lib.IntN.{ℤ}
-use lib.ListN.{length, take, drop}
-use Rattle.bch.specs.Words.{differ}
-use Rattle.bch.specs.Codes.{code3, Within}
+use lib.ListN.{length, drop}
+use Rattle.answers.specs.Answers.{accepted, refused, ofWritten, ofReceivedA}
+use Rattle.answers.specs.Checks.{Checked, fails, passes}
+use Rattle.answers.specs.declared.Written.{Written}
+use Rattle.answers.specs.declared.ReceivedA.{ReceivedA}
+use Rattle.bits.specs.Words.{differ}
+use Rattle.bch.specs.Codes.{code3}
 use Rattle.points.specs.Dqpsk.{dibits, strayAt}
-use Rattle.payload.specs.Bits.{Bytes}
-use Rattle.payload_a.specs.Segments.{carried, protected, fields}
-use Rattle.payload.specs.Grids.{received, indexOf, firstFilled}
+use Rattle.symbols.specs.Grid.{subCarriers, symbolPoints}
+use Rattle.symbols.specs.Grids.{received, indexOf, firstOccupied, room}
+use Rattle.payload.specs.Wire.{Wire, Fits, Mendable, FirstHopeless}
+use Rattle.payload_a.specs.Segments.{blockBits, carried, protected, fields}
 use Rattle.payload_a.specs.CodedA.{bytesA, codedA, sentI, sentQ}
-use Rattle.payload.specs.Answers.{sentNumber, sentPlace}
-use Rattle.payload_a.specs.AnswersA.{numberA, placeA, mendedA, protectedA}
-use Rattle.payload.specs.Checked.{Checked, fails, passes, room}
-use Rattle.payload.specs.declared.Sent.{Sent}
-use Rattle.payload_a.specs.declared.ReceivedA.{ReceivedA}
+
+-- the elements of I and of Q that two OFDM symbols take, and the points that they hold
+abbrev pub elementsA : ℕ
+elementsA = 2 * subCarriers
+
+abbrev pub placesA : ℕ
+placesA = 2 * symbolPoints
 
 -- ---- send
 
-abbrev pub sendChecked : ℕ → List ℕ → List ℤ → List ℤ → Checked
+abbrev pub sendChecked : ℕ → List ℕ → List ℤ → List ℤ → Checked Unit
 sendChecked mode frame is qs =
-    cond (leb mode 1) (cond (eqb (length frame) (bytesA mode)) (cond (room 512 is qs) passes (fails 3 0)) (fails 2 0)) (fails 1 0)
+    cond (leb mode 1) (cond (eqb (length frame) (bytesA mode)) (cond (room elementsA is qs) (passes tt) (fails 3 0)) (fails 2 0)) (fails 1 0)
 
-abbrev pub Sends : Checked → ℕ → List ℕ → List ℤ → List ℤ → Sent → List ℤ → List ℤ → Type 0
-Sends (fails number place) mode frame is qs answer is' qs' =
-    (sentNumber answer ≡ number) × (sentPlace answer ≡ place) × (is' ≡ is) × (qs' ≡ qs)
-Sends passes mode frame is qs answer is' qs' =
-    (sentNumber answer ≡ 0) × (sentPlace answer ≡ 0) × (is' ≡ sentI mode frame ++ drop 512 is) × (qs' ≡ sentQ mode frame ++ drop 512 qs)
+abbrev pub Sends : Checked Unit → ℕ → List ℕ → List ℤ → List ℤ → Written → List ℤ → List ℤ → Type 0
+Sends (fails number place) mode frame is qs answer is' qs' = (ofWritten answer ≡ refused number place) × (is' ≡ is) × (qs' ≡ qs)
+Sends (passes _) mode frame is qs answer is' qs' =
+    (ofWritten answer ≡ accepted 0 0) × (is' ≡ sentI mode frame ++ drop elementsA is) × (qs' ≡ sentQ mode frame ++ drop elementsA qs)
 
 -- send A(mode, frame, I, Q): the answer, and I and Q after
-abbrev pub SendingA : ℕ → List ℕ → List ℤ → List ℤ → Sent → List ℤ → List ℤ → Type 0
+abbrev pub SendingA : ℕ → List ℕ → List ℤ → List ℤ → Written → List ℤ → List ℤ → Type 0
 SendingA mode frame is qs = Sends (sendChecked mode frame is qs) mode frame is qs
 
 -- ---- receive
 
 -- checks 7 and 8: 7 over both OFDM symbols before 8 begins
-abbrev pub pointsChecked : List ℤ → List ℤ → Checked
+abbrev pub pointsChecked : List ℤ → List ℤ → Checked Unit
 pointsChecked is qs =
-    cond (ltb (firstFilled is qs 0 512) 512) (fails 7 (firstFilled is qs 0 512))
-    (cond (ltb (strayAt (received 2 is qs)) 420) (fails 8 (indexOf (strayAt (received 2 is qs)))) passes)
+    cond (ltb (firstOccupied is qs 0 elementsA) elementsA) (fails 7 (firstOccupied is qs 0 elementsA))
+    (cond (ltb (strayAt (received 2 is qs)) placesA) (fails 8 (indexOf (strayAt (received 2 is qs)))) (passes tt))
 
 -- checks 1 and 3 before them
-abbrev pub receiveChecked : ℕ → List ℤ → List ℤ → List ℕ → Checked
+abbrev pub receiveChecked : ℕ → List ℤ → List ℤ → List ℕ → Checked Unit
 receiveChecked mode is qs area =
-    cond (leb mode 1) (cond (room 512 is qs && leb (bytesA mode) (length area)) (pointsChecked is qs) (fails 3 0)) (fails 1 0)
+    cond (leb mode 1) (cond (room elementsA is qs && leb (bytesA mode) (length area)) (pointsChecked is qs) (fails 3 0)) (fails 1 0)
 
--- how many bits are mended in each half of 392
-abbrev pub mendsA : ℕ → ℕ
-mendsA mode = cond (eqb mode 0) 0 16
+-- a frame is sent as two blocks of 392 bits, in each of which 16 may differ; uncoded, its 784 bits count as two blocks in which none may
+abbrev pub wireA : ℕ → Wire
+wireA mode = record { bytes = bytesA mode; blocks = 2; size = blockBits; mends = cond (eqb mode 0) 0 (code3 .t); sent = codedA mode }
 
--- the halves of 784 bits
-abbrev pub half : ℕ → List ℕ → List ℕ
-half block bits = cond (eqb block 0) (take 392 bits) (drop 392 bits)
-
--- a frame for which the 784 bits sent differ from those received in at most 16 places in each half (uncoded: in none)
-pub record Fits (mode : ℕ) (bits frame : List ℕ) : Type 0 where
-  pub long : length frame ≡ bytesA mode
-  pub bytes : Bytes frame
-  pub near : (block : ℕ) → block < 2 → differ (half block (codedA mode frame)) (half block bits) ≤ mendsA mode
-
--- a codeword lies within 16 of a half
-abbrev pub Mendable : ℕ → List ℕ → Type 0
-Mendable block bits = (v : List ℕ) × Within code3 (half block bits) v
-
--- such a frame goes up, with the number of bits that differ and the number of protected bits that differ
+-- a frame that fits goes up, with the number of bits that differ and the number of protected bits that differ
 pub record Goes (mode : ℕ) (bits : List ℕ) (differing : ℕ) (area : List ℕ) (answer : ReceivedA) (area' : List ℕ) : Type 0 where
   pub frame : List ℕ
-  pub fits : Fits mode bits frame
-  pub number : numberA answer ≡ 0
-  pub place : placeA answer ≡ 0
-  pub mended : mendedA answer ≡ differ (codedA mode frame) bits
-  pub protected : protectedA answer ≡ differing
+  pub fits : Fits (wireA mode) bits frame
+  pub tells : ofReceivedA answer ≡ accepted (differ (codedA mode frame) bits) differing
   pub left : area' ≡ frame ++ drop (bytesA mode) area
 
--- what every refusal has in common: its number and place, no counts, and nothing changed
-pub record RefusedWith (number place : ℕ) (area : List ℕ) (answer : ReceivedA) (area' : List ℕ) : Type 0 where
-  pub numbered : numberA answer ≡ number
-  pub placed : placeA answer ≡ place
-  pub mended : mendedA answer ≡ 0
-  pub protected : protectedA answer ≡ 0
+-- a coded block has no codeword within 16, and every block before it has one
+pub record Hopeless (mode : ℕ) (bits : List ℕ) (area : List ℕ) (answer : ReceivedA) (area' : List ℕ) : Type 0 where
+  pub coded : mode ≡ 1
+  pub block : ℕ
+  pub hopeless : FirstHopeless code3 2 bits block
+  pub tells : ofReceivedA answer ≡ refused 9 block
   pub left : area' ≡ area
 
--- a coded half has no codeword within 16, and every half before it has one
-pub record Hopeless (mode : ℕ) (bits : List ℕ) (area : List ℕ) (answer : ReceivedA) (area' : List ℕ) : Type 0 where
-  pub block : ℕ
-  pub coded : mode ≡ 1
-  pub one : block < 2
-  pub none : Mendable block bits → ⊥
-  pub first : (b : ℕ) → b < block → Mendable b bits
-  pub refused : RefusedWith 9 block area answer area'
-
--- each coded half has a codeword within 16, and still no frame fits: the check is wrong
+-- each coded block has a codeword within 16, and still no frame fits: the check is wrong
 pub record Wrong (mode : ℕ) (bits : List ℕ) (area : List ℕ) (answer : ReceivedA) (area' : List ℕ) : Type 0 where
-  pub each : mode ≡ 1 → (b : ℕ) → b < 2 → Mendable b bits
-  pub none : (frame : List ℕ) → Fits mode bits frame → ⊥
-  pub refused : RefusedWith 10 0 area answer area'
+  pub each : mode ≡ 1 → (b : ℕ) → b < 2 → Mendable code3 b bits
+  pub none : (frame : List ℕ) → Fits (wireA mode) bits frame → ⊥
+  pub tells : ofReceivedA answer ≡ refused 10 0
+  pub left : area' ≡ area
 
 -- for 784 bits, and so many protected bits that differ
 abbrev pub Answered : ℕ → List ℕ → ℕ → List ℕ → ReceivedA → List ℕ → Type 0
 Answered mode bits differing area answer area' =
     Goes mode bits differing area answer area' ⊎ (Hopeless mode bits area answer area' ⊎ Wrong mode bits area answer area')
 
-abbrev pub Receives : Checked → ℕ → List ℕ → List ℕ → ReceivedA → List ℕ → Type 0
-Receives (fails number place) mode bits area answer area' = RefusedWith number place area answer area'
-Receives passes mode bits area answer area' = Answered mode (carried bits) (differ fields (protected bits)) area answer area'
+abbrev pub Receives : Checked Unit → ℕ → List ℕ → List ℕ → ReceivedA → List ℕ → Type 0
+Receives (fails number place) mode bits area answer area' = (ofReceivedA answer ≡ refused number place) × (area' ≡ area)
+Receives (passes _) mode bits area answer area' = Answered mode (carried bits) (differ fields (protected bits)) area answer area'
 
 -- receive A(mode, I, Q, area): the answer, and the area after
 abbrev pub ReceivingA : ℕ → List ℤ → List ℤ → List ℕ → ReceivedA → List ℕ → Type 0

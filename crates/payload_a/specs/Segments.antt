@@ -6,6 +6,16 @@ use Prim.Native.Nat.{ℕ, _+_, _*_}
 use lib.Dec.{leb}
 use lib.ListN.{length, take, drop, replicate}
 
+-- the bits of a segment, of a block, which are two segments, and of an OFDM symbol
+abbrev pub segmentBits : ℕ
+segmentBits = 196
+
+abbrev pub blockBits : ℕ
+blockBits = 2 * segmentBits
+
+abbrev pub symbolBits : ℕ
+symbolBits = 420
+
 -- 1111111110, 1111111111 and 11111111
 abbrev pub field1 : List ℕ
 field1 = replicate 9 1 ++ (0 ∷ [])
@@ -26,7 +36,7 @@ symbolOf s u = field1 ++ s ++ field2 ++ u ++ field3
 
 -- the segment i of 784 bits
 unfoldable pub segment : ℕ → List ℕ → List ℕ
-segment i bits = take 196 (drop (196 * i) bits)
+segment i bits = take segmentBits (drop (segmentBits * i) bits)
 
 -- 840 bits from 784
 unfoldable pub framed : List ℕ → List ℕ
@@ -34,7 +44,7 @@ framed bits = symbolOf (segment 0 bits) (segment 1 bits) ++ symbolOf (segment 2 
 
 -- and back: what the segments of one OFDM symbol carry, taken from the middle of its 420 bits
 unfoldable pub carriedBy : List ℕ → List ℕ
-carriedBy symbol = take 196 (drop 10 symbol) ++ take 196 (drop 216 symbol)
+carriedBy symbol = take segmentBits (drop 10 symbol) ++ take segmentBits (drop 216 symbol)
 
 -- and its protected bits
 unfoldable pub protectedIn : List ℕ → List ℕ
@@ -42,10 +52,10 @@ protectedIn symbol = take 10 symbol ++ take 10 (drop 206 symbol) ++ take 8 (drop
 
 -- the 784 bits that 840 carry, and the 56 protected ones
 unfoldable pub carried : List ℕ → List ℕ
-carried bits = carriedBy (take 420 bits) ++ carriedBy (drop 420 bits)
+carried bits = carriedBy (take symbolBits bits) ++ carriedBy (drop symbolBits bits)
 
 unfoldable pub protected : List ℕ → List ℕ
-protected bits = protectedIn (take 420 bits) ++ protectedIn (drop 420 bits)
+protected bits = protectedIn (take symbolBits bits) ++ protectedIn (drop symbolBits bits)
 
 -- the protected bits as they are sent
 unfoldable pub fields : List ℕ

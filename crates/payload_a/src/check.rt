@@ -1,8 +1,8 @@
 // The frame check of clause 7.4.2.
 ghost use mathlib.Core.Path.{_≡_};
 ghost use Prim.Native.Nat.{_<_};
-ghost use Rattle.bch.specs.Words.{lowest};
-ghost use Rattle.bch.specs.Remainders.{step};
+ghost use Rattle.bits.specs.Words.{lowest};
+ghost use Rattle.bits.specs.Remainders.{step};
 ghost use Rattle.payload_a.specs.Check.{checkPolynomial, checkOf};
 
 // Equation 10 without x^32.

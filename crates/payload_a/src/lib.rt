@@ -8,13 +8,13 @@ ghost use Rattle.payload_a.specs.CodedA.{bytesA};
 pub mod check;
 pub mod segments;
 
-use payload::Refusal;
+use symbols::grid::POINTS;
+use symbols::grid::SUB_CARRIERS;
 
-// What receiving Payload A answers: the bits mended and the protected bits that differ, or a refusal.
-pub enum ReceivedA {
-    Accepted { mended: usize, protected: usize },
-    Refused(Refusal),
-}
+// The elements of I and of Q that two OFDM symbols take, and the points that they hold.
+pub const ELEMENTS: usize = 2 * SUB_CARRIERS;
+
+pub const PLACES: usize = 2 * POINTS;
 
 // The bytes of a frame.
 pub fn bytes_a(mode: u8) -> usize

@@ -4,6 +4,15 @@ ghost use mathlib.Core.List.{[], _++_};
 ghost use lib.ListN.{getD};
 ghost use Rattle.payload_a.specs.Segments.{putAt};
 
+// The bits of a segment, of a block, which are two segments, of two blocks, and of an OFDM symbol.
+pub const SEGMENT: usize = 196;
+
+pub const BLOCK: usize = 2 * SEGMENT;
+
+pub const CARRIED: usize = 2 * BLOCK;
+
+pub const SYMBOL: usize = 420;
+
 // Protected fields 1, 2 and 3.
 pub const FIELD1: [u8; 10] = [1, 1, 1, 1, 1, 1, 1, 1, 1, 0];
 
@@ -26,11 +35,11 @@ pub fn put(bits: &[u8], at: usize, out: &mut [u8])
 }
 
 // Two rows one behind the other.
-pub fn flat(rows: [[u8; 392]; 2]) -> [u8; 784]
+pub fn flat(rows: [[u8; BLOCK]; 2]) -> [u8; CARRIED]
     ensures { λ r. ⌜ r ≡ getD rows 0 [] ++ getD rows 1 [] ⌝ }
 {
-    let mut out = [0u8; 784];
+    let mut out = [0u8; CARRIED];
     put(&rows[0], 0, &mut out);
-    put(&rows[1], 392, &mut out);
+    put(&rows[1], BLOCK, &mut out);
     out
 }

@@ -1,21 +1,22 @@
--- The blocks of Payload B: their lengths, what is sent for one, and that one received belongs to one sent at most.
+-- The blocks of Payload B: their lengths, and what is sent for one.
 -- Assumes nothing.
 use mathlib.Core.Path.{_≡_, refl, sym, ap, _∙_}
 use mathlib.Core.Logic.{_≢_}
 use mathlib.Core.Bool.{Bool, true, false, cond}
-use mathlib.Core.List.{List}
-use Prim.Native.Nat.{ℕ, zero, suc, _*_, _≤_, _<_}
+use mathlib.Core.List.{List, [], _++_, append-nil}
+use Prim.Native.Nat.{ℕ, zero, suc, _+_, _*_, _≤_, _<_}
 use native.Mathlib.Omega.{arith}
 use borrow.Author.Tests.{ne-eqb}
 use lib.Dec.{eqb}
-use lib.ListN.{length}
-use Rattle.bch.specs.Words.{Bits, differ}
-use Rattle.bch.specs.Codes.{known, named, encoded, Codeword, Within}
-use Rattle.bch.proofs.Distances.{differ-zero}
+use lib.ListN.{length, take, length-append}
+use lib.Seq.{take-at}
+use Rattle.bits.specs.Words.{Bits, digits}
+use Rattle.bits.specs.Remainders.{remainder}
+use Rattle.bits.proofs.Digits.{bits-append, length-digits, digits-bits}
+use Rattle.bch.specs.Codes.{code1, code2, known, named, encoded, Codeword}
 use Rattle.bch.proofs.Mendings.{encoding-codeword}
 use Rattle.payload_b.specs.CodedB.{blockBytes, blockBits, codeB, blockOf}
 use Rattle.payload_b.specs.PromiseB.{mendsB}
-use Rattle.payload.proofs.Codewords.{information-of, told}
 
 -- ---- lengths
 
@@ -59,24 +60,9 @@ pub record Coded (mode : ℕ) : Type 0 where
 
 pub coded : (mode : ℕ) → mode ≤ 2 → mode ≢ 0 → Coded mode
 coded zero h n = absurd (n refl)
-coded (suc zero) h n = record {
-  code = refl;
-  information = refl;
-  whole = refl;
-  mends = refl;
-  few = omega arith;
-}
-coded (suc (suc zero)) h n = record {
-  code = refl;
-  information = refl;
-  whole = refl;
-  mends = refl;
-  few = omega arith;
-}
+coded (suc zero) h n = record { code = refl; information = refl; whole = refl; mends = refl; few = omega arith }
+coded (suc (suc zero)) h n = record { code = refl; information = refl; whole = refl; mends = refl; few = omega arith }
 coded (suc (suc (suc mode))) h n = absurd (omega arith)
-
-suc≢0 : (mode : ℕ) → suc mode ≢ 0
-suc≢0 mode e = omega arith
 
 -- ---- what is sent for a block
 
@@ -90,39 +76,29 @@ pub block-coded : (mode : ℕ) → mode ≢ 0 → (m : List ℕ) → blockOf mod
 unfolding blockOf
 block-coded mode n m = rw (ne-eqb mode 0 n) refl
 
-module _ (mode : ℕ) (h : mode ≤ 2) (n : mode ≢ 0) (m : List ℕ) (bits : Bits m) (long : length m ≡ 8 * blockBytes mode) where
-  block-codeword : Codeword (codeB mode) (blockOf mode m)
-  block-codeword =
-      let c = coded mode h n in
-      rw (block-coded mode n m) (encoding-codeword mode (c .code) m bits (long ∙ sym (c .information)))
+pub block-codeword : (mode : ℕ) → mode ≤ 2 → mode ≢ 0 → (m : List ℕ) → Bits m → length m ≡ 8 * blockBytes mode → Codeword (codeB mode) (blockOf mode m)
+block-codeword mode h n m bits long =
+    let c = coded mode h n in
+    rw (block-coded mode n m) (encoding-codeword mode (c .code) m bits (long ∙ sym (c .information)))
 
-  -- a codeword within t
-  pub block-within : (w : List ℕ) → differ (blockOf mode m) w ≤ mendsB mode → Within (codeB mode) w (blockOf mode m)
-  block-within w near = record { codeword = block-codeword; near = rw (coded mode h n .mends) near }
-
-pub blockOf-long : (mode : ℕ) → mode ≤ 2 → (m : List ℕ) → Bits m → length m ≡ 8 * blockBytes mode → length (blockOf mode m) ≡ blockBits mode
-blockOf-long zero h m bits long = ap length (block-uncoded m) ∙ long
-blockOf-long (suc mode) h m bits long =
-    block-codeword (suc mode) h (suc≢0 mode) m bits long .long ∙ coded (suc mode) h (suc≢0 mode) .whole
-
-pub blockOf-bits : (mode : ℕ) → mode ≤ 2 → (m : List ℕ) → Bits m → length m ≡ 8 * blockBytes mode → Bits (blockOf mode m)
-blockOf-bits zero h m bits long = rw (block-uncoded m) bits
-blockOf-bits (suc mode) h m bits long = block-codeword (suc mode) h (suc≢0 mode) m bits long .bits
-
--- one block within t of a word: uncoded, the word itself
-pub block-told : (mode : ℕ) → mode ≤ 2 → (x y w : List ℕ) → Bits x → Bits y → length x ≡ 8 * blockBytes mode → length y ≡ 8 * blockBytes mode
-    → length w ≡ blockBits mode → differ (blockOf mode x) w ≤ mendsB mode → differ (blockOf mode y) w ≤ mendsB mode → x ≡ y
-block-told zero h x y w bx by lx ly lw nx ny =
-    same x lx (rw (block-uncoded x) at nx) ∙ sym (same y ly (rw (block-uncoded y) at ny))
+-- in every mode the bits, and so many more behind them
+block-form : (mode : ℕ) (m : List ℕ) → (more : List ℕ) × (blockOf mode m ≡ m ++ more) × (8 * blockBytes mode + length more ≡ blockBits mode) × Bits more
+unfolding blockOf encoded
+block-form mode m = go (eqb mode 0) (eqb mode 1)
   where
-    same : (v : List ℕ) → length v ≡ 8 → differ v w ≤ 0 → v ≡ w
-    same v l d = differ-zero v w (omega arith)
-block-told (suc mode) h x y w bx by lx ly lw nx ny =
-    let n = suc≢0 mode in
-    let c = coded (suc mode) h n in
-    let ex = lx ∙ sym (c .information) in
-    let ey = ly ∙ sym (c .information) in
-    let near : differ (encoded (codeB (suc mode)) x) w ≤ codeB (suc mode) .t = rw (← block-coded (suc mode) n x, c .mends) nx in
-    let within : Within (codeB (suc mode)) w (encoded (codeB (suc mode)) y)
-    = rw (block-coded (suc mode) n y) at (block-within (suc mode) h n y by ly w ny) in
-    told (suc mode) (c .code) (lw ∙ sym (c .whole)) within x bx ex near ∙ information-of (codeB (suc mode)) y ey
+    go : (a b : Bool) → (more : List ℕ) × (cond a m (encoded (cond b code1 code2) m) ≡ m ++ more)
+        × (8 * cond a 1 (cond b 59 54) + length more ≡ cond a 8 (cond b 508 504)) × Bits more
+    go true b = ([], sym (append-nil m), refl, tt)
+    go false true = let r = remainder 36 (code1 .generator) m in (digits 36 r, refl, omega (arith, length-digits 36 r), digits-bits 36 r)
+    go false false = let r = remainder 72 (code2 .generator) m in (digits 72 r, refl, omega (arith, length-digits 72 r), digits-bits 72 r)
+
+module _ (mode : ℕ) (m : List ℕ) (long : length m ≡ 8 * blockBytes mode) where
+  pub blockOf-long : length (blockOf mode m) ≡ blockBits mode
+  blockOf-long = let b = block-form mode m in ap length (b .1) ∙ length-append m (b .0) ∙ omega (arith, b .2)
+
+  -- what is sent tells the bits
+  pub block-front : take (8 * blockBytes mode) (blockOf mode m) ≡ m
+  block-front = let b = block-form mode m in ap (take (8 * blockBytes mode)) (b .1) ∙ take-at m (b .0) (8 * blockBytes mode) long
+
+pub blockOf-bits : (mode : ℕ) (m : List ℕ) → Bits m → Bits (blockOf mode m)
+blockOf-bits mode m bits = let b = block-form mode m in rw (b .1) (bits-append m (b .0) bits (b .3))

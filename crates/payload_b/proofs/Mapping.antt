@@ -10,21 +10,21 @@ use lib.IntN.{ℤ}
 use lib.ListN.{length, take, drop, length-append, length-take, length-drop, take-append-drop}
 use lib.Seq.{length-take-le}
 use Rattle.ground.specs.First.{firstIn}
-use Rattle.bch.specs.Words.{Bits, digits}
-use Rattle.bch.proofs.Digits.{bits-take, bits-drop, length-digits}
+use Rattle.bits.specs.Words.{Bits, digits}
+use Rattle.bits.proofs.Digits.{bits-take, bits-drop, length-digits}
 use Rattle.points.specs.declared.Point.{Point}
 use Rattle.points.specs.declared.Point.the-variants.{At}
 use Rattle.points.specs.declared.Label.the-variants.{Of}
 use Rattle.points.specs.Constellations.{pointOf, labelNumber, levelI, levelQ}
 use Rattle.points.proofs.Rules.{has-point, label-of-point}
-use Rattle.payload.specs.Grids.{received}
-use Rattle.payload.specs.Bits.{number}
+use Rattle.symbols.specs.Grids.{received}
+use Rattle.bits.specs.Bytes.{asNumber}
 use Rattle.payload_b.specs.CodedB.{sumOf, repeated, mapped, labelHeld, labelled}
 use Rattle.payload_b.specs.PromiseB.{strayIn}
 use Rattle.payload_b.specs.PlanB.{Scheme}
-use Rattle.payload.proofs.Numbers.{digits-number, number-low}
-use Rattle.payload.proofs.Readings.{length-received}
-use Rattle.payload.proofs.Placings.{Points}
+use Rattle.bits.proofs.Numbers.{digits-number, number-low}
+use Rattle.symbols.proofs.Readings.{length-received}
+use Rattle.symbols.proofs.Placings.{Points}
 use Rattle.payload_b.proofs.Schemes.{Entries, behind, entry-in, length-repeated, getD-repeated, repeated-long, sum-repeated}
 
 -- ---- bits to points
@@ -53,14 +53,14 @@ entries-repeated {scheme} good m k h =
 
 -- the first point of bits, and its label
 module _ (n : ℕ) (bits : List ℕ) (l : 2 ≤ n) (h : n ≤ 10) (each : Bits bits) where
-  first-low : number (take n bits) < 2 ^ n
+  first-low : asNumber (take n bits) < 2 ^ n
   first-low = number-low n (take n bits) (rw (length-take n bits) (omega arith))
 
-  first-point : At (levelI (pointOf n (number (take n bits)))) (levelQ (pointOf n (number (take n bits)))) ≡ pointOf n (number (take n bits))
-  first-point = sym (has-point n (number (take n bits)) l h first-low)
+  first-point : At (levelI (pointOf n (asNumber (take n bits)))) (levelQ (pointOf n (asNumber (take n bits)))) ≡ pointOf n (asNumber (take n bits))
+  first-point = sym (has-point n (asNumber (take n bits)) l h first-low)
 
-  first-label : labelHeld n (pointOf n (number (take n bits))) ≡ Of (number (take n bits))
-  first-label = label-of-point n (number (take n bits)) _ _ (sym first-point)
+  first-label : labelHeld n (pointOf n (asNumber (take n bits))) ≡ Of (asNumber (take n bits))
+  first-label = label-of-point n (asNumber (take n bits)) _ _ (sym first-point)
 
 pub points-mapped : (ns bits : List ℕ) → Entries ns → Bits bits → Points (mapped ns bits)
 unfolding mapped
@@ -83,8 +83,8 @@ labelled-mapped [] (b ∷ bits) each h l = absurd (omega arith)
 labelled-mapped (n ∷ ns) bits each h l =
     let e = each 0 (omega arith) in
     let long : length (take n bits) ≡ n = length-take-le n bits (omega arith) in
-    let here : digits n (number (take n bits)) ≡ take n bits
-    = ap (λ (m : ℕ). digits m (number (take n bits))) (sym long) ∙ digits-number (take n bits) (bits-take n bits h) in
+    let here : digits n (asNumber (take n bits)) ≡ take n bits
+    = ap (λ (m : ℕ). digits m (asNumber (take n bits))) (sym long) ∙ digits-number (take n bits) (bits-take n bits h) in
     let rest = labelled-mapped ns (drop n bits) (behind n ns each) (bits-drop n bits h) (length-drop n bits ∙ omega arith) in
     rw (first-label n bits (e .0) (e .1) h, here, rest) (take-append-drop n bits)
 

@@ -1,174 +1,131 @@
 -- The promise of Payload B leaves one answer and one memory, for every mode, length, frame, scheme, grid and lent list; and so do the checks 1, 2, 5 and 6.
 -- Assumes nothing.
-use mathlib.Core.Path.{_≡_, refl, sym, ap, _∙_}
+use mathlib.Core.Path.{_≡_, sym, ap, _∙_}
 use mathlib.Core.Logic.{_≢_, inl, inr}
-use mathlib.Core.Bool.{cond}
-use mathlib.Core.List.{List, _++_}
-use Prim.Native.Nat.{ℕ, _%_, _≤_, _<_}
-use native.Mathlib.Decide.{decLt, decLe, ℕ-discrete}
+use mathlib.Core.Bool.{true, false, _&&_, and-eq-true-iff}
+use mathlib.Core.List.{List}
+use Prim.Native.Nat.{ℕ, _%_, _<_}
 use native.Mathlib.Omega.{arith}
-use lib.Dec.{eqb}
+use borrow.Author.Tests.{ltb-true, ltb-false, leb-true, eqb-true}
+use lib.Dec.{eqb, leb, ltb}
 use lib.IntN.{ℤ}
-use lib.ListN.{length, drop}
+use lib.ListN.{length}
 use lib.Seq.{length-take-le}
-use Rattle.bch.specs.Words.{differ}
-use Rattle.payload.specs.Grids.{received}
-use Rattle.payload_b.specs.CodedB.{blockBytes, blocksIn, bitsFor, codedB, symbolsFor, repeated, labelled}
-use Rattle.payload_b.specs.AnswersB.{numberB, placeB, mendedB}
-use Rattle.payload.specs.Checked.{Checked, fails, passes}
-use Rattle.payload_b.specs.PromiseB.{badEntry, planned, SendsB, SendingB, sendCheckedB, gridChecked, bitsReceived, FitsB, MendableB, GoesB, HopelessB, ReceivesB, ReceivingB}
-use Rattle.payload_b.specs.PlanB.{Plan, Judged}
-use Rattle.payload.specs.declared.Sent.{Sent}
-use Rattle.payload_b.specs.declared.ReceivedB.{ReceivedB}
-use Rattle.payload_b.specs.declared.ReceivedB.the-variants.{Accepted, Refused}
+use Rattle.answers.specs.Answers.{refused}
+use Rattle.answers.specs.Checks.{Checked, fails, passes}
+use Rattle.answers.specs.declared.Written.{Written}
+use Rattle.answers.specs.declared.ReceivedB.{ReceivedB}
+use Rattle.answers.proofs.Telling.{refusalOf, refusal-of, because-is, written-same, received-b-same, by-test}
+use Rattle.symbols.specs.Grids.{received}
+use Rattle.payload.specs.Wire.{Fits, FirstHopeless}
+use Rattle.payload.proofs.Wires.{fits-hopeless, one-hopeless}
+use Rattle.payload_b.specs.CodedB.{blockBytes, codeB, blocksIn, bitsFor, symbolsFor, repeated, labelled}
+use Rattle.payload_b.specs.PromiseB.{badEntry, planned, SendsB, SendingB, sendCheckedB, gridChecked, bitsReceived, wireB, ReceivesB, ReceivingB}
+use Rattle.payload_b.specs.PlanB.{Sendable, planOf, Judged}
+use Rattle.payload_b.specs.declared.plan.Plan.{Plan}
 use Rattle.payload_b.specs.declared.plan.Verdict.{Verdict}
 use Rattle.payload_b.specs.declared.plan.Verdict.the-variants.{Passes, Fails}
-use Rattle.payload.proofs.Refusals.{refusalOf, refusal-of, numbered, sent-same}
 use Rattle.payload_b.proofs.Schemes.{bad-most}
 use Rattle.payload_b.proofs.Mapping.{length-symbols}
-use Rattle.payload_b.proofs.Plans.{mode-unknown, none-sent, not-whole, other-length, some-bad, too-many, all-pass, plan-passes, whole-blocks, symbols-hold}
-use Rattle.payload_b.proofs.Blockwise.{fits-mendable}
+use Rattle.payload_b.proofs.Plans.{plan-passes, symbols-hold}
+use Rattle.payload_b.proofs.Blocks.{coded}
+use Rattle.payload_b.proofs.Blockwise.{codeword-b}
 use Rattle.payload_b.proofs.UniqueB.{fits-onceB}
-
--- ---- an answer is its number, place and count
-
-receivedOf : ℕ → ℕ → ℕ → ReceivedB
-receivedOf number place mended = cond (eqb number 0) (Accepted mended) (Refused (refusalOf number place))
-
-received-of : (a : ReceivedB) → receivedOf (numberB a) (placeB a) (mendedB a) ≡ a
-unfolding receivedOf
-received-of (Accepted m) = refl
-received-of (Refused r) = rw (numbered r, refusal-of r)
-
-received-same : (a b : ReceivedB) → numberB a ≡ numberB b → placeB a ≡ placeB b → mendedB a ≡ mendedB b → a ≡ b
-received-same a b n p m = sym (received-of a) ∙ cc (n, p, m) ∙ received-of b
 
 -- ---- send
 
-module _ (mode : ℕ) (frame scheme : List ℕ) (is qs : List ℤ) (a b : Sent) (is1 qs1 is2 qs2 : List ℤ) where
-  one-sent : (k : Checked) → SendsB k mode frame scheme is qs a is1 qs1 → SendsB k mode frame scheme is qs b is2 qs2
+module _ (mode : ℕ) (frame scheme : List ℕ) (is qs : List ℤ) (a b : Written) (is1 qs1 is2 qs2 : List ℤ) where
+  one-sent : (k : Checked Unit) → SendsB k mode frame scheme is qs a is1 qs1 → SendsB k mode frame scheme is qs b is2 qs2
       → (a ≡ b) × (is1 ≡ is2) × (qs1 ≡ qs2)
-  one-sent (fails number place) p q = (sent-same a b (p .0 ∙ sym (q .0)) (p .1 ∙ sym (q .1)), p .2 ∙ sym (q .2), p .3 ∙ sym (q .3))
-  one-sent passes p q = (sent-same a b (p .0 ∙ sym (q .0)) (p .1 ∙ sym (q .1)), p .2 ∙ sym (q .2), p .3 ∙ sym (q .3))
+  one-sent (fails number place) p q = (written-same a b (cc), cc, cc)
+  one-sent (passes _) p q = (written-same a b (cc), cc, cc)
 
   pub send-b-once : SendingB mode frame scheme is qs a is1 qs1 → SendingB mode frame scheme is qs b is2 qs2 → (a ≡ b) × (is1 ≡ is2) × (qs1 ≡ qs2)
   send-b-once = one-sent (sendCheckedB mode frame scheme is qs)
 
 -- ---- the checks 1, 2, 5 and 6: one fails, or there is a plan
 
-module _ (P : Checked → Type 0) (mode n : ℕ) (scheme : List ℕ) (next : Checked) (failed : (number place : ℕ) → 0 < number → P (fails number place))
-    (planning : Plan mode n scheme → P next) where
-  abbrev Found : Type 0
-  Found = P (planned mode n scheme next)
+pub by-plan : (P : Checked Unit → Type 0) (mode n : ℕ) (scheme : List ℕ) (next : Checked Unit) → ((number place : ℕ) → 0 < number → P (fails number place))
+    → (Sendable mode n scheme → P next) → P (planned mode n scheme next)
+by-plan P mode n scheme next failed planning =
+    by-test P (leb mode 2)
+    (λ known. by-test P (ltb 0 n && eqb (n % blockBytes mode) 0)
+    (λ some. by-test P (eqb (length scheme) 210)
+    (λ long. by-test P (ltb (badEntry scheme) 210) (λ _. failed 5 (badEntry scheme) (omega arith))
+    (λ good. by-test P (leb (symbolsFor mode n scheme) 256) (λ few. planning (sendable known some long good few)) (λ _. failed 6 0 (omega arith))))
+    (λ _. failed 5 210 (omega arith)))
+    (λ _. failed 2 0 (omega arith)))
+    (λ _. failed 1 0 (omega arith))
+  where
+    sendable : leb mode 2 ≡ true → (ltb 0 n && eqb (n % blockBytes mode) 0) ≡ true → eqb (length scheme) 210 ≡ true → ltb (badEntry scheme) 210 ≡ false
+        → leb (symbolsFor mode n scheme) 256 ≡ true → Sendable mode n scheme
+    sendable known some long good few =
+        let both = and-eq-true-iff (ltb 0 n) (eqb (n % blockBytes mode) 0) .0 some in
+        let l = eqb-true (length scheme) 210 long in
+        record {
+          known = leb-true mode 2 known;
+          some = ltb-true 0 n (both .0);
+          whole = eqb-true (n % blockBytes mode) 0 (both .1);
+          entries = record { long = l; entries = omega (arith, bad-most scheme, ltb-false (badEntry scheme) 210 good) };
+          few = leb-true (symbolsFor mode n scheme) 256 few;
+        }
 
-  -- the checks 5 and 6, where 1 and 2 pass
-  by-scheme : mode ≤ 2 → 0 < n → n % blockBytes mode ≡ 0 → Found
-  by-scheme k s w = long (ℕ-discrete (length scheme) 210)
-    where
-      few : length scheme ≡ 210 → 210 ≤ badEntry scheme → Dec (symbolsFor mode n scheme ≤ 256) → Found
-      few l g (yes f) =
-          rw (all-pass mode n scheme next k s w l g f)
-          (planning (record { known = k; some = s; whole = w; entries = record { long = l; entries = omega (arith, bad-most scheme) }; few = f }))
-      few l g (no f) = rw (too-many mode n scheme next k s w l g (omega arith)) (failed 6 0 (omega arith))
+-- a verdict is what they find, with the plan
+judgedOf : Plan → Checked Unit → Verdict
+judgedOf plan (fails number place) = Fails (refusalOf (refused number place))
+judgedOf plan (passes _) = Passes plan
 
-      good : length scheme ≡ 210 → Dec (badEntry scheme < 210) → Found
-      good l (yes b) = rw (some-bad mode n scheme next k s w l b) (failed 5 (badEntry scheme) (omega arith))
-      good l (no b) = few l (omega arith) (decLe (symbolsFor mode n scheme) 256)
-
-      long : Dec (length scheme ≡ 210) → Found
-      long (yes l) = good l (decLt (badEntry scheme) 210)
-      long (no l) = rw (other-length mode n scheme next k s w l) (failed 5 210 (omega arith))
-
-  pub by-plan : Found
-  by-plan = known (decLe mode 2)
-    where
-      whole : mode ≤ 2 → 0 < n → Dec (n % blockBytes mode ≡ 0) → Found
-      whole k s (yes w) = by-scheme k s w
-      whole k s (no w) = rw (not-whole mode n scheme next k w) (failed 2 0 (omega arith))
-
-      some : mode ≤ 2 → Dec (0 < n) → Found
-      some k (yes s) = whole k s (ℕ-discrete (n % blockBytes mode) 0)
-      some k (no s) = rw (none-sent mode n scheme next k (omega arith)) (failed 2 0 (omega arith))
-
-      known : Dec (mode ≤ 2) → Found
-      known (yes k) = some k (decLt 0 n)
-      known (no k) = rw (mode-unknown mode n scheme next (omega arith)) (failed 1 0 (omega arith))
-
--- a verdict is what they find, with the OFDM symbols needed
-judgedOf : ℕ → Checked → Verdict
-judgedOf m (fails number place) = Fails (refusalOf number place)
-judgedOf m passes = Passes m
-
-judged-of : (mode n : ℕ) (scheme : List ℕ) (a : Verdict) → Judged mode n scheme a → judgedOf (symbolsFor mode n scheme) (planned mode n scheme passes) ≡ a
+judged-of : (mode n : ℕ) (scheme : List ℕ) (a : Verdict) → Judged mode n scheme a → judgedOf (planOf mode n scheme) (planned mode n scheme (passes tt)) ≡ a
 unfolding judgedOf
-judged-of mode n scheme (Passes m) p = ap (judgedOf (symbolsFor mode n scheme)) (plan-passes (p .0) passes) ∙ ap Passes (sym (p .1))
-judged-of mode n scheme (Fails why) p = ap (judgedOf (symbolsFor mode n scheme)) (p passes) ∙ ap Fails (refusal-of why)
+judged-of mode n scheme (Passes plan) p = ap (judgedOf (planOf mode n scheme)) (plan-passes (p .0) (passes tt)) ∙ ap Passes (sym (p .1))
+judged-of mode n scheme (Fails why) p = ap (judgedOf (planOf mode n scheme)) (p (passes tt)) ∙ ap Fails (ap refusalOf (sym (because-is why)) ∙ refusal-of why)
 
 pub judged-once : (mode n : ℕ) (scheme : List ℕ) (a b : Verdict) → Judged mode n scheme a → Judged mode n scheme b → a ≡ b
 judged-once mode n scheme a b p q = sym (judged-of mode n scheme a p) ∙ judged-of mode n scheme b q
 
--- ---- the bits received are as many as were sent
+-- ---- receive
 
-pub length-bits : {mode n : ℕ} {scheme : List ℕ} → Plan mode n scheme → (is qs : List ℤ) → length (bitsReceived mode n scheme is qs) ≡ bitsFor mode n
+-- the bits received are as many as were sent
+pub length-bits : {mode n : ℕ} {scheme : List ℕ} → Sendable mode n scheme → (is qs : List ℤ) → length (bitsReceived mode n scheme is qs) ≡ bitsFor mode n
 length-bits {mode} {n} {scheme} plan is qs =
     let m = symbolsFor mode n scheme in
     length-take-le (bitsFor mode n) (labelled (repeated m scheme) (received m is qs))
     (rw (length-symbols scheme (plan .entries .long) m is qs) (symbols-hold plan))
 
--- ---- receive
-
 module _ (area : List ℕ) (a b : ReceivedB) (u v : List ℕ) where
-  abbrev Same : Type 0
-  Same = (a ≡ b) × (u ≡ v)
+  module _ {mode n : ℕ} {scheme : List ℕ} (plan : Sendable mode n scheme) (bits : List ℕ) (long : length bits ≡ bitsFor mode n) where
+    -- where a frame fits, no block is hopeless
+    not-hopeless : (frame : List ℕ) → Fits (wireB mode n) bits frame → mode ≢ 0 → (block : ℕ) → FirstHopeless (codeB mode) (blocksIn mode n) bits block → ⊥
+    not-hopeless frame fits not =
+        let c = coded mode (plan .known) not in
+        fits-hopeless (wireB mode n) (codeB mode) (sym (c .whole)) (sym (c .mends)) (codeword-b mode n (plan .known) (plan .whole) not) bits frame fits
 
-  module _ {mode n : ℕ} {scheme : List ℕ} (plan : Plan mode n scheme) (bits : List ℕ) (long : length bits ≡ bitsFor mode n) where
-    -- of a coded frame that fits, each block has a codeword within t
-    mendable : mode ≢ 0 → (frame : List ℕ) → FitsB mode n bits frame → (block : ℕ) → block < blocksIn mode n → MendableB mode block bits
-    mendable coded frame fits =
-        fits-mendable mode (blocksIn mode n) (plan .known) coded bits frame (rw (whole-blocks mode n (plan .whole)) at fits)
+    answered-same : ReceivesB (passes tt) mode n bits area a u → ReceivesB (passes tt) mode n bits area b v → (a ≡ b) × (u ≡ v)
+    answered-same (inl p) (inl q) =
+        let same = fits-onceB mode n (plan .known) (plan .whole) bits (p .frame) (q .frame) long (p .fits) (q .fits) in
+        (received-b-same a b (cc), cc)
+    answered-same (inl p) (inr q) = absurd (not-hopeless (p .frame) (p .fits) (q .coded) (q .block) (q .hopeless))
+    answered-same (inr p) (inl q) = absurd (not-hopeless (q .frame) (q .fits) (p .coded) (p .block) (p .hopeless))
+    answered-same (inr p) (inr q) =
+        let same = one-hopeless (codeB mode) (blocksIn mode n) bits (p .block) (q .block) (p .hopeless) (q .hopeless) in
+        (received-b-same a b (cc), cc)
 
-    goes-same : GoesB mode n bits area a u → GoesB mode n bits area b v → Same
-    goes-same p q =
-        let m = blocksIn mode n in
-        let whole = whole-blocks mode n (plan .whole) in
-        let same = fits-onceB mode m (plan .known) bits (p .frame) (q .frame) long (rw whole at (p .fits)) (rw whole at (q .fits)) in
-        let count = ap (λ (f : List ℕ). differ (codedB mode f) bits) same in
-        let memory = ap (λ (f : List ℕ). f ++ drop n area) same in (
-          received-same a b (p .number ∙ sym (q .number)) (p .place ∙ sym (q .place)) (p .mended ∙ count ∙ sym (q .mended)),
-          p .left ∙ memory ∙ sym (q .left),
-        )
-
-    hopeless-same : HopelessB mode n bits area a u → HopelessB mode n bits area b v → Same
-    hopeless-same p q = go (decLt (p .block) (q .block)) (decLt (q .block) (p .block))
-      where
-        go : Dec (p .block < q .block) → Dec (q .block < p .block) → Same
-        go (yes l) _ = absurd (p .none (q .first (p .block) l))
-        go (no _) (yes l) = absurd (q .none (p .first (q .block) l))
-        go (no s) (no t) =
-            let e : p .block ≡ q .block = omega arith in
-            (received-same a b (p .number ∙ sym (q .number)) (p .place ∙ e ∙ sym (q .place)) (p .mended ∙ sym (q .mended)), p .left ∙ sym (q .left))
-
-    answered-same : ReceivesB passes mode n bits area a u → ReceivesB passes mode n bits area b v → Same
-    answered-same (inl p) (inl q) = goes-same p q
-    answered-same (inl p) (inr q) = absurd (q .none (mendable (q .coded) (p .frame) (p .fits) (q .block) (q .one)))
-    answered-same (inr p) (inl q) = absurd (p .none (mendable (p .coded) (q .frame) (q .fits) (p .block) (p .one)))
-    answered-same (inr p) (inr q) = hopeless-same p q
-
-  failed-same : (number place mode n : ℕ) (bits : List ℕ) → ReceivesB (fails number place) mode n bits area a u → ReceivesB (fails number place) mode n bits area b v → Same
-  failed-same number place mode n bits p q =
-      (received-same a b (p .0 ∙ sym (q .0)) (p .1 ∙ sym (q .1)) (p .2 ∙ sym (q .2)), p .3 ∙ sym (q .3))
-
-  pub receive-b-once : (mode n : ℕ) (scheme : List ℕ) (is qs : List ℤ) → ReceivingB mode n scheme is qs area a u → ReceivingB mode n scheme is qs area b v → (a ≡ b) × (u ≡ v)
-  receive-b-once mode n scheme is qs =
-      by-plan (λ k. ReceivesB k mode n bits area a u → ReceivesB k mode n bits area b v → Same) mode n scheme next
-      (λ number place _. failed-same number place mode n bits) (λ plan. one plan next)
+  pub receive-b-once : (mode n : ℕ) (scheme : List ℕ) (is qs : List ℤ) → ReceivingB mode n scheme is qs area a u → ReceivingB mode n scheme is qs area b v
+      → (a ≡ b) × (u ≡ v)
+  receive-b-once mode n scheme is qs = by-plan Same mode n scheme next (λ number place _. failed number place) (λ plan. one plan next)
     where
-      next : Checked
+      next : Checked Unit
       next = gridChecked (symbolsFor mode n scheme) n scheme is qs area
 
       bits : List ℕ
       bits = bitsReceived mode n scheme is qs
 
-      one : Plan mode n scheme → (k : Checked) → ReceivesB k mode n bits area a u → ReceivesB k mode n bits area b v → Same
-      one plan (fails number place) = failed-same number place mode n bits
-      one plan passes = answered-same plan bits (length-bits plan is qs)
+      Same : Checked Unit → Type 0
+      Same k = ReceivesB k mode n bits area a u → ReceivesB k mode n bits area b v → (a ≡ b) × (u ≡ v)
+
+      failed : (number place : ℕ) → Same (fails number place)
+      failed number place p q = (received-b-same a b (cc), cc)
+
+      one : Sendable mode n scheme → (k : Checked Unit) → Same k
+      one plan (fails number place) = failed number place
+      one plan (passes _) = answered-same plan bits (length-bits plan is qs)

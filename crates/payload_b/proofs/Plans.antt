@@ -2,7 +2,7 @@
 -- Assumes nothing.
 use mathlib.Core.Path.{_≡_, refl}
 use mathlib.Core.Logic.{_≢_}
-use mathlib.Core.Bool.{Bool, true, false, _&&_}
+use mathlib.Core.Bool.{and-false}
 use mathlib.Core.List.{List}
 use Prim.Native.Nat.{ℕ, _+_, _-_, _*_, _/_, _%_, _≤_, _<_}
 use native.Mathlib.Nat.{mod-lt, div-add-mod}
@@ -11,9 +11,9 @@ use borrow.Author.Tests.{le-leb, lt-leb, lt-ltb, le-ltb, eq-eqb, ne-eqb}
 use lib.Dec.{ltb}
 use lib.ListN.{length}
 use Rattle.payload_b.specs.CodedB.{blockBytes, blocksIn, bitsFor, sumOf, symbolsFor}
-use Rattle.payload.specs.Checked.{Checked, fails}
+use Rattle.answers.specs.Checks.{Checked, fails}
 use Rattle.payload_b.specs.PromiseB.{badEntry, planned}
-use Rattle.payload_b.specs.PlanB.{Plan}
+use Rattle.payload_b.specs.PlanB.{Sendable}
 use Rattle.payload_b.proofs.Schemes.{sum-least}
 
 -- ---- whole blocks and whole OFDM symbols
@@ -27,16 +27,12 @@ pub whole-blocks : (mode n : ℕ) → n % blockBytes mode ≡ 0 → n ≡ blockB
 whole-blocks mode n e = omega (arith, div-add-mod n (blockBytes mode))
 
 -- the OFDM symbols hold the coded bits
-pub symbols-hold : {mode n : ℕ} {scheme : List ℕ} → Plan mode n scheme → bitsFor mode n ≤ sumOf scheme * symbolsFor mode n scheme
+pub symbols-hold : {mode n : ℕ} {scheme : List ℕ} → Sendable mode n scheme → bitsFor mode n ≤ sumOf scheme * symbolsFor mode n scheme
 symbols-hold {mode} {n} {scheme} plan = rounded-up (bitsFor mode n) (sumOf scheme) (omega (arith, sum-least (plan .entries)))
 
 -- ---- the checks
 
-and-false : (b : Bool) → b && false ≡ false
-and-false true = refl
-and-false false = refl
-
-module _ (mode n : ℕ) (scheme : List ℕ) (next : Checked) where
+module _ (mode n : ℕ) (scheme : List ℕ) (next : Checked Unit) where
   pub mode-unknown : 2 < mode → planned mode n scheme next ≡ fails 1 0
   mode-unknown l = rw (lt-leb mode 2 l) refl
 
@@ -84,6 +80,6 @@ module _ (mode n : ℕ) (scheme : List ℕ) (next : Checked) where
               refl
 
 -- the checks that follow decide where these pass
-pub plan-passes : {mode n : ℕ} {scheme : List ℕ} → Plan mode n scheme → (next : Checked) → planned mode n scheme next ≡ next
+pub plan-passes : {mode n : ℕ} {scheme : List ℕ} → Sendable mode n scheme → (next : Checked Unit) → planned mode n scheme next ≡ next
 plan-passes {mode} {n} {scheme} p next =
     all-pass mode n scheme next (p .known) (p .some) (p .whole) (p .entries .long) (omega (arith, p .entries .entries)) (p .few)

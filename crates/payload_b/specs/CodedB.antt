@@ -6,14 +6,14 @@ use Prim.Native.Nat.{ℕ, zero, suc, _+_, _-_, _*_, _/_}
 use lib.Dec.{eqb}
 use lib.IntN.{ℤ}
 use lib.ListN.{length, take, drop, replicate}
-use Rattle.bch.specs.Words.{digits}
+use Rattle.bits.specs.Words.{digits}
 use Rattle.bch.specs.Codes.{Code, code1, code2, encoded}
 use Rattle.points.specs.declared.Point.{Point}
 use Rattle.points.specs.declared.Label.{Label}
 use Rattle.points.specs.Constellations.{pointOf, labelOf, labelNumber, levelI, levelQ}
-use Rattle.payload.specs.Bits.{bitsOf, number}
+use Rattle.bits.specs.Bytes.{bitsOf, asNumber}
 use Rattle.payload.specs.Scrambler.{scrambled}
-use Rattle.payload.specs.Grids.{placed}
+use Rattle.symbols.specs.Grids.{placed}
 
 -- ---- modes: 0 is uncoded, 1 uses (508,472), 2 uses (504,432)
 
@@ -69,7 +69,7 @@ repeated (suc m) scheme = scheme ++ repeated m scheme
 -- bits fill points in order, the first bit being b(n-1)
 unfoldable pub mapped : List ℕ → List ℕ → List Point
 mapped [] bits = []
-mapped (n ∷ ns) bits = pointOf n (number (take n bits)) ∷ mapped ns (drop n bits)
+mapped (n ∷ ns) bits = pointOf n (asNumber (take n bits)) ∷ mapped ns (drop n bits)
 
 -- the last OFDM symbol is filled up with zero bits, unscrambled
 abbrev pub filledUp : ℕ → List ℕ → List ℕ

@@ -1,4 +1,3 @@
 pub mod CodedB
-pub mod AnswersB
 pub mod PromiseB
 pub mod PlanB

@@ -4,11 +4,3 @@
 //   zeros       lists that are all zero
 pub mod plan;
 pub mod zeros;
-
-use payload::Refusal;
-
-// What receiving Payload B answers: the bits mended, or a refusal.
-pub enum ReceivedB {
-    Accepted(usize),
-    Refused(Refusal),
-}

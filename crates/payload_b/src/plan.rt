@@ -1,11 +1,16 @@
 // What the checks 1, 2, 5 and 6 find out about a frame of Payload B.
 ghost use mathlib.Core.Path.{_≡_};
-ghost use Prim.Native.Nat.{min};
+ghost use Prim.Native.Nat.{suc, min, _+_, _-_, _*_, _/_, _≤_};
 ghost use lib.ListN.{take};
-ghost use Rattle.payload_b.specs.CodedB.{blockBytes, blockBits, sumOf, symbolsFor};
-ghost use Rattle.payload_b.specs.PromiseB.{badEntry};
-ghost use Rattle.payload_b.specs.PlanB.{Scheme, Judged};
-use payload::Refusal;
+ghost use Rattle.symbols.specs.Grid.{symbolPoints};
+ghost use Rattle.payload_b.specs.CodedB.{blockBytes, blockBits, sumOf};
+ghost use Rattle.payload_b.specs.PromiseB.{mostSymbols, badEntry};
+ghost use Rattle.payload_b.specs.PlanB.{Judged};
+use answers::Refusal;
+use symbols::grid::POINTS;
+
+// No frame needs more OFDM symbols.
+pub const MOST_SYMBOLS: usize = 256;
 
 // The bytes of a block.
 pub fn block_bytes(mode: u8) -> usize
@@ -28,13 +33,13 @@ pub fn block_bits(mode: u8) -> usize
 }
 
 // The bits of an OFDM symbol: those of the scheme's 210 entries.
-pub fn sum(scheme: &[u8]) -> usize
-    ensures { λ r. ⌜ r ≡ sumOf (take 210 (now (scheme .entry))) ⌝ }
+fn sum(scheme: &[u8]) -> usize
+    ensures { λ r. ⌜ r ≡ sumOf (take symbolPoints (now (scheme .entry))) ⌝ }
 {
     let mut n: usize = 0;
     let mut i: usize = 0;
     while i < scheme.len() {
-        if i == 210 {
+        if i == POINTS {
             return n;
         }
         n += scheme[i] as usize;
@@ -60,23 +65,32 @@ fn bad_entry(scheme: &[u8]) -> usize
     i
 }
 
-// The OFDM symbols needed, or 257 where more than 256 are: no scheme has room for more than 67,200 blocks.
-fn symbols(mode: u8, size: usize, scheme: &[u8]) -> usize
-    requires { ⌜ Scheme (now scheme) ⌝ }
-    ensures { λ r. ⌜ r ≡ min (symbolsFor mode size (now (scheme .entry))) 257 ⌝ }
+// The OFDM symbols that so many blocks need, of so many bits each, or 257 where more than 256 are: no scheme has room for more than 67,200 blocks.
+fn symbols(mode: u8, blocks: usize, sum: usize) -> usize
+    requires { ⌜ (420 ≤ sum) × (sum ≤ 2100) ⌝ }
+    ensures { λ r. ⌜ r ≡ min ((blockBits mode * blocks + (sum - 1)) / sum) (suc mostSymbols) ⌝ }
 {
-    let blocks = size / block_bytes(mode);
     if 67200 < blocks {
-        return 257;
+        return MOST_SYMBOLS + 1;
     }
-    let bits = sum(scheme);
-    let m = (block_bits(mode) * blocks + (bits - 1)) / bits;
-    if m < 257 { m } else { 257 }
+    let m = (block_bits(mode) * blocks + (sum - 1)) / sum;
+    if m <= MOST_SYMBOLS {
+        m
+    } else {
+        MOST_SYMBOLS + 1
+    }
 }
 
-// Whether the checks pass, and how many OFDM symbols are needed.
+// What both directions need to know of a frame: the OFDM symbols needed, the blocks, and the bits of an OFDM symbol.
+pub struct Plan {
+    pub symbols: usize,
+    pub blocks: usize,
+    pub sum: usize,
+}
+
+// The checks pass, with this plan; or one fails.
 pub enum Verdict {
-    Passes(usize),
+    Passes(Plan),
     Fails(Refusal),
 }
 
@@ -85,7 +99,7 @@ pub fn judged(mode: u8, size: usize, scheme: &[u8]) -> Verdict
     ensures { λ r. ⌜ Judged mode size (now (scheme .entry)) r ⌝ }
 {
     if 2 < mode {
-        return Verdict::Fails(Refusal::UnknownMode);
+        return Verdict::Fails(Refusal::Unknown);
     }
     if size == 0 {
         return Verdict::Fails(Refusal::WrongLength);
@@ -93,16 +107,22 @@ pub fn judged(mode: u8, size: usize, scheme: &[u8]) -> Verdict
     if size % block_bytes(mode) != 0 {
         return Verdict::Fails(Refusal::WrongLength);
     }
-    if scheme.len() != 210 {
-        return Verdict::Fails(Refusal::BadScheme(210));
+    if scheme.len() != POINTS {
+        return Verdict::Fails(Refusal::BadScheme(POINTS));
     }
     let bad = bad_entry(scheme);
-    if bad < 210 {
+    if bad < POINTS {
         return Verdict::Fails(Refusal::BadScheme(bad));
     }
-    let needed = symbols(mode, size, scheme);
-    if 256 < needed {
+    let blocks = size / block_bytes(mode);
+    let sum = sum(scheme);
+    let symbols = symbols(mode, blocks, sum);
+    if MOST_SYMBOLS < symbols {
         return Verdict::Fails(Refusal::TooManySymbols);
     }
-    Verdict::Passes(needed)
+    Verdict::Passes(Plan {
+        symbols,
+        blocks,
+        sum,
+    })
 }

@@ -4,4 +4,3 @@ pub mod Places
 pub mod Lending
 pub mod Rules
 pub mod Turns
-pub mod Placement

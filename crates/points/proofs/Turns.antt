@@ -15,7 +15,8 @@ use Rattle.points.specs.declared.Label.{Label}
 use Rattle.points.specs.declared.Label.the-variants.{Of, Stray}
 use Rattle.points.specs.Constellations.{labelAt, next, labelNumber, isStray, levelI, levelQ}
 use Rattle.points.specs.Lent.{partsOf, phaseGuess, confirmed}
-use Rattle.points.specs.Dqpsk.{table1, phases, turns, turn, dibitTo, phasePoint, phaseOf, turnedFrom, turned, dibitsFrom, dibits, phaseAt, strayAt, Bits, after}
+use Rattle.points.specs.Dqpsk.{table1, phases, turns, turn, dibitTo, phasePoint, phaseOf, turnedFrom, turned, dibitsFrom, dibits, phaseAt, strayAt, after}
+use Rattle.bits.specs.Words.{Bits}
 use Rattle.ground.specs.First.{firstIn}
 use Rattle.ground.proofs.Tests.{all, all-at, all-equal}
 use Rattle.ground.proofs.Firsts.{first}
@@ -93,14 +94,14 @@ dibits-turned-from [] m phase h e each = refl
 dibits-turned-from (b ∷ []) m phase h e each = absurd (omega arith)
 dibits-turned-from (b ∷ (c ∷ bits)) zero phase h e each = absurd (omega arith)
 dibits-turned-from (b ∷ (c ∷ bits)) (suc m) phase h e each =
-    let first : b < 2 = each 0 (omega arith) in
-    let second : c < 2 = each 1 (omega arith) in
+    let first : b < 2 = each .0 in
+    let second : c < 2 = each .1 .0 in
     let to = turn phase (2 * b + c) in
     let d : dibitTo phase to ≡ 2 * b + c = dibit-turn phase (2 * b + c) h (omega arith) in
     let b-back : (2 * b + c) / 2 ≡ b = omega arith in
     let c-back : (2 * b + c) % 2 ≡ c = omega arith in
     let small = turn-lt phase (2 * b + c) in
-    let rest = dibits-turned-from bits m to small (omega arith) (λ k l. each (suc (suc k)) (omega arith)) in
+    let rest = dibits-turned-from bits m to small (omega arith) (each .1 .1) in
     rw (phase-of-point to small, d, b-back, c-back, rest)
 
 -- an even number of bits comes back from the points that it was turned into
@@ -171,7 +172,7 @@ pub legal-turned : (bits : List ℕ) → strayAt (turned bits) ≡ length (turne
 unfolding turned
 legal-turned bits = legal-turned-from bits 0
 
-length-dibits-from : (ps : List Point) (phase : ℕ) → length (dibitsFrom phase ps) ≡ 2 * length ps
+pub length-dibits-from : (ps : List Point) (phase : ℕ) → length (dibitsFrom phase ps) ≡ 2 * length ps
 unfolding dibitsFrom
 length-dibits-from [] phase = refl
 length-dibits-from (p ∷ ps) phase =
@@ -193,17 +194,12 @@ dibit-lt : (phase to : ℕ) → dibitTo phase to < 4
 unfolding dibitTo
 dibit-lt phase to = turns-lt ((to % 4 + 4 - phase % 4) % 4)
 
-dibits-bits-from : (ps : List Point) (phase : ℕ) → Bits (dibitsFrom phase ps)
+pub dibits-bits-from : (ps : List Point) (phase : ℕ) → Bits (dibitsFrom phase ps)
 unfolding dibitsFrom
-dibits-bits-from [] phase k h = absurd (omega arith)
-dibits-bits-from (p ∷ ps) phase zero h = omega (arith, dibit-lt phase (labelNumber (phaseOf (levelI p) (levelQ p))))
-dibits-bits-from (p ∷ ps) phase (suc zero) h = omega arith
-dibits-bits-from (p ∷ ps) phase (suc (suc k)) h =
-    dibits-bits-from ps (labelNumber (phaseOf (levelI p) (levelQ p))) k (omega arith)
-
-pub dibits-bits : (ps : List Point) → Bits (dibits ps)
-unfolding dibits
-dibits-bits ps = dibits-bits-from ps 0
+dibits-bits-from [] phase = tt
+dibits-bits-from (p ∷ ps) phase =
+    let to = labelNumber (phaseOf (levelI p) (levelQ p)) in
+    (omega (arith, dibit-lt phase to), (omega arith, dibits-bits-from ps to))
 
 -- ---- the first stray point
 

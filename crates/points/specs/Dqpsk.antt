@@ -1,8 +1,8 @@
 -- DQPSK, clause 6.4.2: each dibit turns the last point by quarter turns.
-use Prim.Native.Nat.{ℕ, _+_, _-_, _*_, _/_, _%_, _<_}
+use Prim.Native.Nat.{ℕ, _+_, _-_, _*_, _/_, _%_}
 use mathlib.Core.List.{List, [], _∷_}
 use lib.IntN.{ℤ, pos, negsuc}
-use lib.ListN.{length, getD}
+use lib.ListN.{getD}
 use Rattle.ground.specs.First.{firstIn}
 use Rattle.points.specs.declared.Point.{Point}
 use Rattle.points.specs.declared.Point.the-variants.{At, Nothing}
@@ -82,10 +82,6 @@ dibitsFrom phase (p ∷ ps) =
 
 unfoldable pub dibits : List Point → List ℕ
 dibits ps = dibitsFrom 0 ps
-
--- each element of the list is a bit
-abbrev pub Bits : List ℕ → Type 0
-Bits bits = (k : ℕ) → k < length bits → getD bits k 0 < 2
 
 -- ---- the first stray point
 

@@ -4,5 +4,4 @@ pub mod AnnexB
 pub mod Constellations
 pub mod Rules
 pub mod Dqpsk
-pub mod Grid
 pub mod Lent

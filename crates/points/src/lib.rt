@@ -1,10 +1,11 @@
-// The points of HiNoC, ITU-T J.195.2: ten constellations (clause 6.4 and Annex B) and the grid of sub-carriers (equation 4).
-// It knows no code and no frame. Every public function answers whatever comes in.
+// The points of HiNoC, ITU-T J.195.2: ten constellations (clause 6.4 and Annex B).
+// It knows no code, no sub-carrier and no frame. Every public function answers whatever comes in.
+ghost use mathlib.Core.Path.{_≡_};
+ghost use Rattle.points.specs.Constellations.{levelI, levelQ, labelNumber, isStray};
 
 pub mod constellation;
 pub mod dqpsk;
 mod eight;
-pub mod grid;
 mod level;
 mod look;
 mod quarter;
@@ -22,8 +23,42 @@ pub enum Label {
     Stray,
 }
 
-// What a sub-carrier holds: the constellation symbol s, numbered from 1, or nothing.
-pub enum Carrier {
-    Holds(usize),
-    Empty,
+// The level I of a point: 0 where there is none.
+pub fn level_i(point: Point) -> i16
+    ensures { λ r. ⌜ r ≡ levelI point ⌝ }
+{
+    match point {
+        Point::At { i, q: _ } => i,
+        Point::Nothing => 0,
+    }
+}
+
+// The level Q of a point: 0 where there is none.
+pub fn level_q(point: Point) -> i16
+    ensures { λ r. ⌜ r ≡ levelQ point ⌝ }
+{
+    match point {
+        Point::At { i: _, q } => q,
+        Point::Nothing => 0,
+    }
+}
+
+// Whether a label says that the point is stray.
+pub fn is_stray(label: Label) -> bool
+    ensures { λ r. ⌜ r ≡ isStray label ⌝ }
+{
+    match label {
+        Label::Of(_) => false,
+        Label::Stray => true,
+    }
+}
+
+// The number that a label says: 0 where the point is stray.
+pub fn label_number(label: Label) -> u16
+    ensures { λ r. ⌜ r ≡ labelNumber label ⌝ }
+{
+    match label {
+        Label::Of(number) => number,
+        Label::Stray => 0,
+    }
 }

@@ -1,82 +1,88 @@
--- Payload A as received: two OFDM symbols read one after the other give the bits of the burst, its two rows and its protected bits.
+-- Payload A as received: two OFDM symbols, read one after the other, are those of the burst: its first stray point, and its bits.
 -- Assumes nothing.
-use mathlib.Core.Path.{_≡_, sym, ap, ap₂, _∙_}
+use mathlib.Core.Path.{_≡_, refl, sym, ap, ap₂, _∙_}
 use mathlib.Core.List.{List, [], _∷_, _++_}
-use Prim.Native.Nat.{ℕ, _+_, _*_, _≤_}
+use Prim.Native.Nat.{ℕ, _+_, _≤_, _<_}
 use native.Mathlib.Omega.{arith}
 use lib.IntN.{ℤ}
-use lib.Dec.{lit≤}
-use lib.ListN.{length, take, drop, length-append, length-take}
-use Rattle.bch.specs.Words.{differ}
-use Rattle.bch.proofs.Distances.{differ-le}
-use Rattle.points.specs.Dqpsk.{dibits, dibitsFrom}
-use Rattle.points.proofs.Turns.{length-dibits}
-use Rattle.payload_a.specs.Segments.{field1, field2, field3, carriedBy, protectedIn, carried, protected, fields}
-use Rattle.payload.specs.Grids.{pointsFrom, received}
-use Rattle.receiver_a.specs.Phases.{phaseLast, readOn}
-use Rattle.receiver_a.specs.HeldA.{Rows, flatOf}
+use lib.ListN.{length, take, drop}
+use Rattle.ground.proofs.Firsts.{first, first-within, first-behind}
+use Rattle.bits.specs.Words.{Bits}
+use Rattle.payload_a.specs.Segments.{symbolBits}
+use Rattle.points.specs.declared.Point.{Point}
+use Rattle.points.specs.declared.Point.the-variants.{Nothing}
+use Rattle.points.specs.Constellations.{levelI, levelQ, labelNumber}
+use Rattle.points.specs.Dqpsk.{phaseOf, dibitsFrom, dibits, strayAt}
+use Rattle.points.proofs.Turns.{length-dibits-from, dibits-bits-from}
+use Rattle.symbols.specs.Grids.{pointsFrom, received}
+use Rattle.symbols.proofs.Readings.{length-points, received-one, received-add, points-take}
+use Rattle.receiver_a.specs.Phases.{phaseLast, Reads}
+use Rattle.receiver_a.specs.Steps.{Pair}
 use Rattle.receiver_a.specs.declared.phases.Read.{Read}
-use Rattle.payload_a.proofs.Fields.{bits-carried-by, length-carried-by}
-use Rattle.payload_a.proofs.Framing.{carried-append, differ-fields}
-use Rattle.payload.proofs.Readings.{length-points, points-take}
-use Rattle.payload_a.proofs.Turnings.{length-read}
-use Rattle.receiver_a.proofs.Dibits.{dibits-two, dibits-are, dibits-behind}
 
--- ---- how many protected bits differ
+-- the points of one OFDM symbol
+abbrev symbol : List ℤ → List ℤ → List Point
+symbol is qs = pointsFrom is qs 1 210
 
--- those of one OFDM symbol
-abbrev pub differingIn : List ℕ → ℕ
-differingIn symbol = differ (field1 ++ field2 ++ field3) (protectedIn symbol)
+received-two : (is qs : List ℤ) → received 2 is qs ≡ symbol is qs ++ symbol (drop 256 is) (drop 256 qs)
+received-two is qs = received-add 1 1 is qs ∙ ap₂ _++_ (received-one is qs) (received-one (drop 256 is) (drop 256 qs))
 
-protected-most : (y : List ℕ) → length (protectedIn y) ≤ 28
-unfolding protectedIn
-protected-most y = simp length-append (omega (arith, length-take 10 y, length-take 10 (drop 206 y), length-take 8 (drop 412 y)))
+-- the phase is carried on from points to those behind them
+dibits-append : (a b : List Point) (phase : ℕ) → dibitsFrom phase (a ++ b) ≡ dibitsFrom phase a ++ dibitsFrom (phaseLast phase a) b
+unfolding dibitsFrom phaseLast
+dibits-append [] b phase = refl
+dibits-append (p ∷ a) b phase = rw (dibits-append a b (labelNumber (phaseOf (levelI p) (levelQ p))))
 
-pub differing-le : (symbol : List ℕ) → differingIn symbol ≤ 28
-differing-le symbol = differ-le (field1 ++ field2 ++ field3) (protectedIn symbol) 28 (lit≤ tt) (protected-most symbol)
+-- an OFDM symbol in which no point is found stray
+module _ {phase : ℕ} {ps : List Point} {read : Read} (reads : Reads phase ps read) (long : length ps ≡ 210) (legal : 210 ≤ read .stray) where
+  none-stray : strayAt ps ≡ length ps
+  none-stray = let most : strayAt ps ≤ length ps = first _ Nothing ps .most in omega (arith, reads .stray)
 
--- ---- two OFDM symbols, of 256 sub-carriers each
+  read-long : length (read .bits) ≡ 420
+  read-long = ap length (reads .bits none-stray) ∙ length-dibits-from ps phase ∙ omega arith
 
--- the phase is carried on from the first to the second
-pub record Burst (is qs : List ℤ) (first second : Read) : Type 0 where
-  pub begun : first ≡ readOn 0 (take 256 is) (take 256 qs)
-  pub carried-on : second ≡ readOn (first .last) (take 256 (drop 256 is)) (take 256 (drop 256 qs))
+  read-bits : Bits (read .bits)
+  read-bits = rw (reads .bits none-stray) (dibits-bits-from ps phase)
 
-module _ {is qs : List ℤ} {first second : Read} (burst : Burst is qs first second) where
-  first-read : first .bits ≡ dibits (pointsFrom is qs 1 210)
-  unfolding dibits
-  first-read = ap (λ (r : Read). r .bits) (burst .begun) ∙ ap (dibitsFrom 0) (points-take is qs)
+-- the two of a burst, of 256 sub-carriers each
+module _ (is qs : List ℤ) {first-read : Read} (begun : Reads 0 (symbol (take 256 is) (take 256 qs)) first-read) where
+  one : Reads 0 (symbol is qs) first-read
+  one = rw (points-take is qs) at begun
 
-  second-read : second .bits ≡ dibitsFrom (phaseLast 0 (pointsFrom is qs 1 210)) (pointsFrom (drop 256 is) (drop 256 qs) 1 210)
-  second-read =
-      ap (λ (r : Read). r .bits) (burst .carried-on)
-      ∙ ap₂ dibitsFrom (ap (λ (r : Read). r .last) (burst .begun) ∙ ap (phaseLast 0) (points-take is qs)) (points-take (drop 256 is) (drop 256 qs))
+  one-long : length (symbol is qs) ≡ 210
+  one-long = length-points is qs 1 210
 
-  both-read : first .bits ++ second .bits ≡ dibits (received 2 is qs)
-  unfolding dibits
-  both-read = ap₂ _++_ first-read second-read ∙ sym (dibits-two is qs)
+  -- the first has a stray point
+  pub first-stray : first-read .stray < 210 → strayAt (received 2 is qs) ≡ first-read .stray
+  first-stray l =
+      ap strayAt (received-two is qs) ∙ first-within _ (symbol is qs) _ (omega (arith, one .stray, one-long)) ∙ sym (one .stray)
 
-  first-long : length (first .bits) ≡ 420
-  first-long = ap length first-read ∙ length-dibits (pointsFrom is qs 1 210) ∙ ap (λ (n : ℕ). 2 * n) (length-points is qs 1 210)
+  module _ (legal : 210 ≤ first-read .stray) {second-read : Read}
+      (on : Reads (first-read .last) (symbol (take 256 (drop 256 is)) (take 256 (drop 256 qs))) second-read) where
+    two : Reads (first-read .last) (symbol (drop 256 is) (drop 256 qs)) second-read
+    two = rw (points-take (drop 256 is) (drop 256 qs)) at on
 
-  second-long : length (second .bits) ≡ 420
-  second-long = omega (arith, first-long, length-append (first .bits) (second .bits), ap length both-read, length-read is qs)
+    two-long : length (symbol (drop 256 is) (drop 256 qs)) ≡ 210
+    two-long = length-points (drop 256 is) (drop 256 qs) 1 210
 
-  -- what each carries, as rows
-  module _ {a b : List ℕ} (ea : a ≡ carriedBy (first .bits)) (eb : b ≡ carriedBy (second .bits)) where
-    pub rows-read : Rows (a ∷ b ∷ [])
-    rows-read = record {
-      first-long = ap length ea ∙ length-carried-by (first .bits) first-long;
-      second-long = ap length eb ∙ length-carried-by (second .bits) second-long;
-      first-bits = rw ea (bits-carried-by (first .bits) (rw first-read (dibits-are (pointsFrom is qs 1 210))));
-      second-bits = rw eb (bits-carried-by (second .bits) (rw second-read (dibits-behind (pointsFrom is qs 1 210) _)));
-    }
+    clean : strayAt (symbol is qs) ≡ length (symbol is qs)
+    clean = none-stray one one-long legal
 
-    pub bits-read : flatOf (a ∷ b ∷ []) ≡ carried (dibits (received 2 is qs))
-    bits-read = ap₂ _++_ ea eb ∙ sym (carried-append (first .bits) (second .bits) first-long) ∙ ap carried both-read
+    -- it has none: the first of the second is that of both
+    pub second-stray : strayAt (received 2 is qs) ≡ 210 + second-read .stray
+    second-stray =
+        ap strayAt (received-two is qs) ∙ first-behind _ (symbol is qs) _ clean ∙ ap₂ _+_ one-long (sym (two .stray))
 
-  -- and how many of its protected bits differ
-  pub fields-read : {m n : ℕ} → m ≡ differingIn (first .bits) → n ≡ differingIn (second .bits)
-      → m + n ≡ differ fields (protected (dibits (received 2 is qs)))
-  fields-read em en =
-      ap₂ _+_ em en ∙ sym (differ-fields (first .bits) (second .bits) first-long) ∙ ap (λ (bits : List ℕ). differ fields (protected bits)) both-read
+    module _ (legal-too : 210 ≤ second-read .stray) where
+      -- neither has one: their bits
+      pub burst-read : first-read .bits ++ second-read .bits ≡ dibits (received 2 is qs)
+      unfolding dibits
+      burst-read = rw (one .bits clean, two .bits (none-stray two two-long legal-too), one .last clean, received-two is qs, dibits-append)
+
+      pub burst-pair : Pair symbolBits (first-read .bits) (second-read .bits)
+      burst-pair = record {
+        first-long = read-long one one-long legal;
+        second-long = read-long two two-long legal-too;
+        first-bits = read-bits one one-long legal;
+        second-bits = read-bits two two-long legal-too;
+      }

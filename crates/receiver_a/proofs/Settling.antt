@@ -1,61 +1,168 @@
--- The answer for an uncoded frame: the 784 bits received are those sent for the frame delivered, or those sent for no frame.
+-- The answer for a frame that was delivered, or not: uncoded, by the 784 bits received; coded, by the codewords within 16 of its two blocks.
 -- Assumes nothing.
-use mathlib.Core.Path.{_≡_, refl, sym, ap, _∙_}
+use mathlib.Core.Path.{_≡_, refl, sym, ap, ap₂, _∙_}
 use mathlib.Core.Bool.{Bool, true, false}
-use mathlib.Core.List.{List, [], _++_}
+use mathlib.Core.List.{List, _++_}
 use mathlib.Core.Logic.{inl, inr}
-use Prim.Native.Nat.{ℕ, _≤_, _<_}
+use Prim.Native.Nat.{ℕ, _+_, _≤_}
 use native.Mathlib.Omega.{arith}
-use lib.ListN.{length, getD, take, drop, length-append, take-append-drop}
-use lib.Seq.{length-take-le}
-use Rattle.bch.specs.Words.{Bits, differ}
-use Rattle.bch.proofs.Distances.{differ-self}
-use Rattle.bch.proofs.Mendings.{bits-append}
-use Rattle.payload_a.specs.CodedA.{codedA}
-use Rattle.payload_a.specs.PromiseA.{half, Goes, Wrong, Answered}
-use Rattle.receiver_a.specs.HeldA.{Rows, flatOf, Delivered, settledAs}
-use Rattle.payload.specs.declared.Refusal.the-variants.{WrongCheck}
-use Rattle.payload_a.proofs.Coding.{coded-uncoded, fits-uncoded}
-use Rattle.payload_a.proofs.VerdictsA.{refused}
+use lib.ListN.{length, take, drop, length-append, take-append-drop}
+use lib.Seq.{take-at, drop-at, length-take-le}
+use Rattle.answers.specs.Answers.{accepted}
+use Rattle.answers.specs.declared.Refusal.the-variants.{Uncorrectable}
+use Rattle.answers.specs.declared.ReceivedA.the-variants.{Refused}
+use Rattle.answers.specs.declared.Decoded.{Decoded}
+use Rattle.answers.specs.declared.Decoded.the-variants as decoded
+use Rattle.answers.specs.declared.Told.{Told}
+use Rattle.bits.specs.Words.{Bits, differ}
+use Rattle.bits.proofs.Digits.{bits-take, bits-drop, bits-append}
+use Rattle.bits.proofs.Distances.{differ-self, differ-append}
+use Rattle.bch.specs.Codes.{code3, encoded, Within}
+use Rattle.bch.specs.Promise.{Decoding}
+use Rattle.bch.proofs.Codewords.{by-answer, told}
+use Rattle.payload.specs.Wire.{blockAt, Fits, Mendable}
+use Rattle.payload.proofs.Wires.{fits-clean}
+use Rattle.payload_a.specs.Segments.{blockBits}
+use Rattle.payload_a.specs.CodedA.{information, blocksA, codedA}
+use Rattle.payload_a.specs.PromiseA.{wireA, Answered}
+use Rattle.payload_a.proofs.Coding.{bits-information, first-long, second-long, coded-uncoded, fits-uncoded}
+use Rattle.payload_a.proofs.Coding.{first-block, second-block, filled, each-block, block-0, block-1}
+use Rattle.receiver_a.specs.Steps.{Pair, Delivered, settledAs}
 
--- ---- two rows of 392 bits
+-- ---- two words of n bits, one behind the other
 
-pub flat-long : (rows : List (List ℕ)) → Rows rows → length (flatOf rows) ≡ 784
-flat-long rows h = length-append (getD rows 0 []) (getD rows 1 []) ∙ omega (arith, h .first-long, h .second-long)
+module _ {n : ℕ} {a b : List ℕ} (pair : Pair n a b) where
+  pub both-long : length (a ++ b) ≡ n + n
+  both-long = length-append a b ∙ ap₂ _+_ (pair .first-long) (pair .second-long)
 
-pub flat-bits : (rows : List (List ℕ)) → Rows rows → Bits (flatOf rows)
-flat-bits rows h = bits-append (getD rows 0 []) (getD rows 1 []) (h .first-bits) (h .second-bits)
+  pub both-bits : Bits (a ++ b)
+  both-bits = bits-append a b (pair .first-bits) (pair .second-bits)
+
+-- ---- where nothing is written the area is as it was
+
+kept : {part : List ℕ} (n : ℕ) (area : List ℕ) → part ≡ take n area → part ++ drop n area ≡ area
+kept n area e = ap (λ (p : List ℕ). p ++ drop n area) e ∙ take-append-drop n area
 
 -- ---- an uncoded frame
 
-module _ (w area : List ℕ) (u : ℕ) (room : 94 ≤ length area) where
-  part-long : length (take 94 area) ≡ 94
-  part-long = length-take-le 94 area room
-
-  delivered-goes : (part : List ℕ) → Delivered w (take 94 area) true part → Goes 0 w u area (settledAs true 0 u) (part ++ drop 94 area)
-  delivered-goes part d =
-      let e : codedA 0 part ≡ w = coded-uncoded part ∙ d .sent refl in
-      let near : (block : ℕ) → block < 2 → differ (half block (codedA 0 part)) (half block w) ≤ 0
-      = λ block _. rw (e, differ-self (half block w)) (omega arith) in
-      record {
-        frame = part;
-        fits = record { long = d .long ∙ part-long; bytes = d .bytes refl; near = near };
-        number = refl;
-        place = refl;
-        mended = sym (ap (λ (v : List ℕ). differ v w) e ∙ differ-self w);
-        protected = refl;
-        left = refl;
-      }
-
-  not-delivered-wrong : (part : List ℕ) → Delivered w (take 94 area) false part → Wrong 0 w area (settledAs false 0 u) (part ++ drop 94 area)
-  not-delivered-wrong part d =
-      record {
-        each = λ e. absurd (omega arith);
-        none = λ frame fits. d .none refl frame (fits .long ∙ sym part-long) (fits-uncoded w frame fits);
-        refused = refused WrongCheck refl (ap (λ (q : List ℕ). q ++ drop 94 area) (d .kept refl) ∙ take-append-drop 94 area);
-      }
-
-pub uncoded-settled : (w area : List ℕ) (u : ℕ) (right : Bool) (part : List ℕ) → 94 ≤ length area → Delivered w (take 94 area) right part
+pub uncoded-settled : (w area : List ℕ) (u : ℕ) (right : Bool) (part : List ℕ) → length w ≡ 784 → 94 ≤ length area → Delivered w (take 94 area) right part
     → Answered 0 w u area (settledAs right 0 u) (part ++ drop 94 area)
-uncoded-settled w area u true part room d = inl (delivered-goes w area u room part d)
-uncoded-settled w area u false part room d = inr (inr (not-delivered-wrong w area u room part d))
+uncoded-settled w area u true part long room (l, bytes, sent) =
+    let e : codedA 0 part ≡ w = coded-uncoded part ∙ sent in
+    inl (record {
+      frame = part;
+      fits = rw e at (fits-clean (wireA 0) part (l ∙ length-take-le 94 area room) bytes);
+      tells = ap (λ (n : ℕ). accepted n u) (sym (ap (λ (v : List ℕ). differ v w) e ∙ differ-self w));
+      left = refl;
+    })
+uncoded-settled w area u false part long room (same, none) =
+    inr (inr (record {
+      each = λ e. absurd (omega arith);
+      none = λ frame fits. none frame (fits .long ∙ sym (length-take-le 94 area room)) (fits-uncoded w frame long fits);
+      tells = refl;
+      left = kept 94 area same;
+    }))
+
+-- ---- a row that decode mends, or not
+
+-- the codeword within 16 and the number of places that differ, or there is none
+abbrev pub Mends : List ℕ → List ℕ → Decoded → Type 0
+Mends row v (decoded.Accepted n) = Within code3 row v × (n ≡ differ v row)
+Mends row v (decoded.Refused r) = (v : List ℕ) → Within code3 row v → ⊥
+
+pub row-mended : (row out after : List ℕ) (answer : Decoded) → Bits row → length row ≡ blockBits → length out ≡ blockBits
+    → Decoding 3 row out answer after → Mends row after answer
+row-mended row out after answer bits long room =
+    by-answer 3 refl row out answer after bits long (omega arith) (Mends row after)
+    (λ n m. let e = m .left ∙ filled (m .codeword) out room in
+    (rw e (m .within), ap (λ (t : Told). t .mended) (m .tells) ∙ ap (λ (v : List ℕ). differ v row) (sym e)))
+    (λ r h. h .none)
+
+-- ---- a coded frame
+
+module _ {a b : List ℕ} (rows : Pair blockBits a b) (area : List ℕ) (u : ℕ) where
+  first-is : blockAt blockBits 0 (a ++ b) ≡ a
+  first-is = first-block a b (rows .first-long)
+
+  second-is : blockAt blockBits 1 (a ++ b) ≡ b
+  second-is = second-block a b (rows .first-long) (rows .second-long)
+
+  -- no codeword within 16 of the first block
+  pub first-hopeless : ((v : List ℕ) → Within code3 a v → ⊥) → Answered 1 (a ++ b) u area (Refused (Uncorrectable 0)) area
+  first-hopeless none = inr (inl (record {
+    coded = refl;
+    block = 0;
+    hopeless = record { one = omega arith; none = λ m. none (m .0) (rw first-is at (m .1)); before = λ b l. absurd (omega arith) };
+    tells = refl;
+    left = refl;
+  }))
+
+  module _ {v : List ℕ} (hv : Within code3 a v) where
+    first-mendable : Mendable code3 0 (a ++ b)
+    first-mendable = (v, rw first-is hv)
+
+    -- of the second block only
+    pub second-hopeless : ((w : List ℕ) → Within code3 b w → ⊥) → Answered 1 (a ++ b) u area (Refused (Uncorrectable 1)) area
+    second-hopeless none = inr (inl (record {
+      coded = refl;
+      block = 1;
+      hopeless = record {
+        one = omega arith;
+        none = λ m. none (m .0) (rw second-is at (m .1));
+        before = λ block l. let e : block ≡ 0 = omega arith in rw e first-mendable;
+      };
+      tells = refl;
+      left = refl;
+    }))
+
+    module _ {w : List ℕ} (hw : Within code3 b w) where
+      -- the information of both codewords
+      pub informing : Pair 248 (take 248 v) (take 248 w)
+      informing = record {
+        first-long = length-take-le 248 v (omega (arith, hv .codeword .long));
+        second-long = length-take-le 248 w (omega (arith, hw .codeword .long));
+        first-bits = bits-take 248 v (hv .codeword .bits);
+        second-bits = bits-take 248 w (hw .codeword .bits);
+      }
+
+      -- a frame with their information is sent as these two codewords
+      rebuilt : (frame : List ℕ) → information frame ≡ take 248 v ++ take 248 w → codedA 1 frame ≡ v ++ w
+      unfolding codedA blocksA
+      rebuilt frame e =
+          let l = informing .first-long in
+          rw (e, take-at (take 248 v) (take 248 w) 248 l, drop-at (take 248 v) (take 248 w) 248 l)
+          (ap₂ _++_ (sym (hv .codeword .made)) (sym (hw .codeword .made)))
+
+      -- a frame that fits has their information
+      carries : (frame : List ℕ) → Fits (wireA 1) (a ++ b) frame → information frame ≡ take 248 v ++ take 248 w
+      carries frame fits =
+          let s = information frame in
+          let near-first : differ (encoded code3 (take 248 s)) a ≤ 16 = rw (block-0 0 frame (fits .long), first-is) at (fits .near 0 (omega arith)) in
+          let near-second : differ (encoded code3 (drop 248 s)) b ≤ 16 = rw (block-1 0 frame (fits .long), second-is) at (fits .near 1 (omega arith)) in
+          let x = told 3 refl (rows .first-long) hv (take 248 s) (bits-take 248 s (bits-information frame)) (first-long frame (fits .long)) near-first in
+          let y = told 3 refl (rows .second-long) hw (drop 248 s) (bits-drop 248 s (bits-information frame)) (second-long frame (fits .long)) near-second in
+          sym (take-append-drop 248 s) ∙ ap₂ _++_ x y
+
+      pub coded-settled : (m : ℕ) (part : List ℕ) (right : Bool) → m ≡ differ v a + differ w b → 58 ≤ length area
+          → Delivered (take 248 v ++ take 248 w) (take 58 area) right part → Answered 1 (a ++ b) u area (settledAs right m u) (part ++ drop 58 area)
+      coded-settled m part true em room (l, bytes, sent) =
+          let made = rebuilt part sent in
+          let lv = hv .codeword .long in
+          inl (record {
+            frame = part;
+            fits = record {
+              long = l ∙ length-take-le 58 area room;
+              bytes = bytes;
+              near = each-block (λ block. differ (blockAt blockBits block (codedA 1 part)) (blockAt blockBits block (a ++ b)) ≤ 16)
+                  (rw (made, first-block v w lv, first-is) (hv .near)) (rw (made, second-block v w lv (hw .codeword .long), second-is) (hw .near));
+            };
+            tells = ap (λ (n : ℕ). accepted n u) (em ∙ sym (ap (λ (x : List ℕ). differ x (a ++ b)) made ∙ differ-append v a w b (lv ∙ sym (rows .first-long))));
+            left = refl;
+          })
+      coded-settled m part false em room (same, none) =
+          inr (inr (record {
+            each = λ _. each-block (λ block. Mendable code3 block (a ++ b)) first-mendable (w, rw second-is hw);
+            none = λ frame fits. none frame (fits .long ∙ sym (length-take-le 58 area room)) (carries frame fits);
+            tells = refl;
+            left = kept 58 area same;
+          }))

@@ -1,2 +1,2 @@
 pub mod Phases
-pub mod HeldA
+pub mod Steps

@@ -1,59 +1,49 @@
 // DQPSK on the grid, for Payload A: each OFDM symbol's 210 points are read as 420 bits, the phase carried on.
-ghost use mathlib.Core.Path.{_≡_};
 ghost use Prim.Native.Nat.{_≤_};
 ghost use lib.ListN.{length};
-ghost use Rattle.points.specs.Dqpsk.{strayAt};
-ghost use Rattle.payload.specs.Grids.{received};
-ghost use Rattle.receiver_a.specs.Phases.{readOn};
-use payload::grid;
-use payload::grid::POINTS;
-use payload::point;
+ghost use Rattle.symbols.specs.Grid.{subCarriers, symbolPoints};
+ghost use Rattle.symbols.specs.Grids.{pointsFrom};
+ghost use Rattle.receiver_a.specs.Phases.{Reads};
+use payload_a::segments::SYMBOL;
 use points::dqpsk;
+use symbols::grid;
+use symbols::grid::POINTS;
 
-// The bits of an OFDM symbol, two to a point.
-const BITS: usize = 2 * POINTS;
-
-// The places of the two OFDM symbols of Payload A.
-const PLACES: usize = 2 * POINTS;
-
-// The 420 bits of one OFDM symbol, and the phase of its last point.
+// What reading one OFDM symbol gives: the place of its first stray point, 210 where there is none, and then its 420 bits and the phase of its last point.
 pub struct Read {
-    pub bits: [u8; BITS],
+    pub stray: usize,
+    pub bits: [u8; SYMBOL],
     pub last: u16,
 }
 
-// The place, in s order over both OFDM symbols, of the first stray point; 420 where there is none.
-pub(crate) fn first_stray(i: &[i16], q: &[i16]) -> usize
-    requires { ⌜ (512 ≤ length (now i)) × (512 ≤ length (now q)) ⌝ }
-    ensures { λ r. ⌜ r ≡ strayAt (received 2 (now (i .entry)) (now (q .entry))) ⌝ }
-{
-    let mut place: usize = 0;
-    while place < PLACES {
-        let k = grid::index(place as u16);
-        if point::is_stray(dqpsk::phase(i[k], q[k])) {
-            return place;
-        }
-        place += 1;
-    }
-    place
-}
-
-// The bits of one OFDM symbol's points, from the phase before them.
+// The bits of one OFDM symbol's points, from the phase before them, up to a stray one.
 pub(crate) fn read_bits(i: &[i16], q: &[i16], phase: u16) -> Read
-    requires { ⌜ (256 ≤ length (now i)) × (256 ≤ length (now q)) ⌝ }
-    ensures { λ r. ⌜ r ≡ readOn phase (now (i .entry)) (now (q .entry)) ⌝ }
+    requires { ⌜ (subCarriers ≤ length (now i)) × (subCarriers ≤ length (now q)) ⌝ }
+    ensures { λ r. ⌜ Reads phase (pointsFrom (now (i .entry)) (now (q .entry)) 1 symbolPoints) r ⌝ }
 {
-    let mut bits = [0u8; BITS];
+    let mut bits = [0u8; SYMBOL];
     let mut last = phase;
     let mut s: usize = 0;
     while s < POINTS {
-        let k = points::grid::place(s + 1);
-        let to = point::number(dqpsk::phase(i[k], q[k]));
+        let k = grid::carrier_of(s + 1);
+        let label = dqpsk::phase(i[k], q[k]);
+        if points::is_stray(label) {
+            return Read {
+                stray: s,
+                bits,
+                last,
+            };
+        }
+        let to = points::label_number(label);
         let dibit = dqpsk::dibit(last, to);
         bits[2 * s] = dibit / 2;
         bits[2 * s + 1] = dibit % 2;
         last = to;
         s += 1;
     }
-    Read { bits, last }
+    Read {
+        stray: s,
+        bits,
+        last,
+    }
 }

@@ -4,65 +4,35 @@ ghost use mathlib.Core.Bool.{true, false};
 ghost use mathlib.Core.List.{_++_};
 ghost use Prim.Native.Nat.{_+_, _*_, _≤_};
 ghost use lib.ListN.{length, take};
-ghost use Rattle.bch.specs.Words.{Bits, digits};
+ghost use Rattle.bits.specs.Words.{Bits, digits};
 ghost use Rattle.points.specs.Dqpsk.{dibits};
-ghost use Rattle.payload.specs.Grids.{received};
+ghost use Rattle.symbols.specs.Grids.{received};
+ghost use Rattle.bch.specs.Codes.{code3};
+ghost use Rattle.payload_a.specs.Segments.{blockBits, symbolBits};
 ghost use Rattle.payload_a.specs.CodedA.{bytesA};
-ghost use Rattle.payload.specs.Checked.{passes};
-ghost use Rattle.payload_a.specs.PromiseA.{pointsChecked, Answered, Receives};
-ghost use Rattle.receiver_a.specs.HeldA.{Rows, flatOf, halfOf, Halved, Delivered, settledAs};
+ghost use Rattle.answers.specs.Checks.{passes};
+ghost use Rattle.payload_a.specs.PromiseA.{elementsA, pointsChecked, Answered, Receives};
+ghost use Rattle.receiver_a.specs.Steps.{Pair, Rows, flatOf, Delivered, settledAs};
 use crate::phases;
-use crate::symbols;
-use bch::Decoded;
-use payload::Refusal;
-use payload::bits;
-use payload::grid;
+use crate::rows;
+use answers::Decoded;
+use answers::ReceivedA;
+use answers::Refusal;
 use payload::scrambler;
-use payload_a::ReceivedA;
+use payload_a::ELEMENTS;
 use payload_a::check;
 use payload_a::segments;
-
-// What mending a row gives: whether a codeword lies within 16, and if so the codeword and the number of places that differ.
-pub struct Half {
-    pub codeword: [u8; 392],
-    pub found: bool,
-    pub count: usize,
-}
-
-// A codeword, and what decode answered when it was written.
-fn half_of(codeword: [u8; 392], answer: Decoded) -> Half
-    ensures { λ r. ⌜ r ≡ halfOf codeword answer ⌝ }
-{
-    match answer {
-        Decoded::Accepted(count) => Half {
-            codeword,
-            found: true,
-            count,
-        },
-        Decoded::Refused(_) => Half {
-            codeword,
-            found: false,
-            count: 0,
-        },
-    }
-}
-
-// The codeword of code 3 within 16 of a row.
-fn mended(row: &[u8]) -> Half
-    requires { ⌜ Bits (now row) × (length (now row) ≡ 392) ⌝ }
-    ensures { λ r. ⌜ Halved (now (row .entry)) r ⌝ }
-{
-    let mut codeword = [0u8; 392];
-    let answer = decoder::decode(3, row, &mut codeword);
-    half_of(codeword, answer)
-}
+use payload_a::segments::BLOCK;
+use symbols::grid;
+use symbols::grid::POINTS;
+use symbols::grid::SUB_CARRIERS;
 
 // Whether 32 bits are those of a check.
 fn is_check(check: u32, bits: &[u8]) -> bool
     requires { ⌜ Bits (now bits) × (length (now bits) ≡ 32) ⌝ }
     ensures { λ r. ⌜ (r ≡ true → now (bits .entry) ≡ digits 32 check) × (r ≡ false → now (bits .entry) ≡ digits 32 check → ⊥) ⌝ }
 {
-    bits::number(bits) == check
+    bits::as_number(bits) == check
 }
 
 // Unscrambles bits, in place, and writes the frame to the area if its check is right.
@@ -96,7 +66,7 @@ fn settled(right: bool, mended: usize, differing: usize) -> ReceivedA
 }
 
 // An uncoded frame.
-fn uncoded(rows: [[u8; 392]; 2], differing: usize, area: &mut [u8]) -> ReceivedA
+fn uncoded(rows: [[u8; BLOCK]; 2], differing: usize, area: &mut [u8]) -> ReceivedA
     requires { ⌜ Rows rows × (94 ≤ length (now area)) ⌝ }
     ensures { λ r. ⌜ Answered 0 (flatOf rows) differing (now (area .entry)) r (now (area .exit)) ⌝ }
 {
@@ -107,8 +77,8 @@ fn uncoded(rows: [[u8; 392]; 2], differing: usize, area: &mut [u8]) -> ReceivedA
 
 // The information of two codewords, 248 bits of each.
 fn information(first: &[u8], second: &[u8]) -> [u8; 496]
-    requires { ⌜ (length (now first) ≡ 392) × (length (now second) ≡ 392) ⌝ }
-    ensures { λ r. ⌜ r ≡ take 248 (now (first .entry)) ++ take 248 (now (second .entry)) ⌝ }
+    requires { ⌜ (length (now first) ≡ blockBits) × (length (now second) ≡ blockBits) ⌝ }
+    ensures { λ r. ⌜ r ≡ take (code3 .k) (now (first .entry)) ++ take (code3 .k) (now (second .entry)) ⌝ }
 {
     let mut out = [0u8; 496];
     segments::put(&first[0..248], 0, &mut out);
@@ -116,26 +86,33 @@ fn information(first: &[u8], second: &[u8]) -> [u8; 496]
     out
 }
 
-// A coded frame.
-fn coded(rows: [[u8; 392]; 2], differing: usize, area: &mut [u8]) -> ReceivedA
+// Room for a codeword of code 3.
+fn row() -> [u8; BLOCK]
+    ensures { λ r. ⌜ length r ≡ blockBits ⌝ }
+{
+    [0u8; BLOCK]
+}
+
+// A coded frame: each row is mended.
+fn coded(rows: [[u8; BLOCK]; 2], differing: usize, area: &mut [u8]) -> ReceivedA
     requires { ⌜ Rows rows × (58 ≤ length (now area)) ⌝ }
     ensures { λ r. ⌜ Answered 1 (flatOf rows) differing (now (area .entry)) r (now (area .exit)) ⌝ }
 {
-    let first = mended(&rows[0]);
-    if !first.found {
+    let mut first = row();
+    let Decoded::Accepted(in_first) = decoder::decode(3, &rows[0], &mut first) else {
         return ReceivedA::Refused(Refusal::Uncorrectable(0));
-    }
-    let second = mended(&rows[1]);
-    if !second.found {
+    };
+    let mut second = row();
+    let Decoded::Accepted(in_second) = decoder::decode(3, &rows[1], &mut second) else {
         return ReceivedA::Refused(Refusal::Uncorrectable(1));
-    }
-    let mut bits = information(&first.codeword, &second.codeword);
+    };
+    let mut bits = information(&first, &second);
     let right = deliver(&mut bits, &mut area[0..58]);
-    settled(right, first.count + second.count, differing)
+    settled(right, in_first + in_second, differing)
 }
 
 // The answer for 784 bits in two rows, and so many protected bits that differ.
-fn answer(mode: u8, rows: [[u8; 392]; 2], differing: usize, area: &mut [u8]) -> ReceivedA
+fn answer(mode: u8, rows: [[u8; BLOCK]; 2], differing: usize, area: &mut [u8]) -> ReceivedA
     requires { ⌜ (mode ≤ 1) × Rows rows × (bytesA mode ≤ length (now area)) ⌝ }
     ensures { λ r. ⌜ Answered mode (flatOf rows) differing (now (area .entry)) r (now (area .exit)) ⌝ }
 {
@@ -146,30 +123,36 @@ fn answer(mode: u8, rows: [[u8; 392]; 2], differing: usize, area: &mut [u8]) -> 
     }
 }
 
-// The answer for legal points: the phase of the first OFDM symbol's last point is carried on.
-fn read(mode: u8, i: &[i16], q: &[i16], area: &mut [u8]) -> ReceivedA
-    requires { ⌜ (mode ≤ 1) × (512 ≤ length (now i)) × (512 ≤ length (now q)) × (bytesA mode ≤ length (now area)) ⌝ }
-    ensures { λ r. ⌜ Receives passes mode (dibits (received 2 (now (i .entry)) (now (q .entry)))) (now (area .entry)) r (now (area .exit)) ⌝ }
+// The answer for the bits of two OFDM symbols.
+fn read(mode: u8, first: &[u8], second: &[u8], area: &mut [u8]) -> ReceivedA
+    requires { ⌜ (mode ≤ 1) × Pair symbolBits (now first) (now second) × (bytesA mode ≤ length (now area)) ⌝ }
+    ensures { λ r. ⌜ Receives (passes tt) mode (now (first .entry) ++ now (second .entry)) (now (area .entry)) r (now (area .exit)) ⌝ }
 {
-    let first = phases::read_bits(&i[0..256], &q[0..256], 0);
-    let second = phases::read_bits(&i[256..512], &q[256..512], first.last);
-    let differing = symbols::differing(&first.bits) + symbols::differing(&second.bits);
-    let rows = [symbols::block(&first.bits), symbols::block(&second.bits)];
+    let differing = rows::differing(first) + rows::differing(second);
+    let rows = [rows::block(first), rows::block(second)];
     answer(mode, rows, differing, area)
 }
 
-// Checks 7 and 8, and then the answer.
+// Checks 7 and 8, and then the answer: the phase of the first OFDM symbol's last point is carried on.
 pub(crate) fn receive(mode: u8, i: &[i16], q: &[i16], area: &mut [u8]) -> ReceivedA
-    requires { ⌜ (mode ≤ 1) × (512 ≤ length (now i)) × (512 ≤ length (now q)) × (bytesA mode ≤ length (now area)) ⌝ }
+    requires { ⌜ (mode ≤ 1) × (elementsA ≤ length (now i)) × (elementsA ≤ length (now q)) × (bytesA mode ≤ length (now area)) ⌝ }
     ensures { λ r. ⌜ Receives (pointsChecked (now (i .entry)) (now (q .entry))) mode (dibits (received 2 (now (i .entry)) (now (q .entry)))) (now (area .entry)) r (now (area .exit)) ⌝ }
 {
-    let filled = grid::first_filled(i, q, 512);
-    if filled < 512 {
-        return ReceivedA::Refused(Refusal::Filled(filled));
+    let occupied = grid::first_occupied(i, q, ELEMENTS);
+    if occupied < ELEMENTS {
+        return ReceivedA::Refused(Refusal::Occupied(occupied));
     }
-    let stray = phases::first_stray(i, q);
-    if stray < 420 {
-        return ReceivedA::Refused(Refusal::StrayPoint(grid::index(stray as u16)));
+    let first = phases::read_bits(&i[0..SUB_CARRIERS], &q[0..SUB_CARRIERS], 0);
+    if first.stray < POINTS {
+        return ReceivedA::Refused(Refusal::StrayPoint(grid::index(first.stray as u16)));
     }
-    read(mode, i, q, area)
+    let second = phases::read_bits(
+        &i[SUB_CARRIERS..ELEMENTS],
+        &q[SUB_CARRIERS..ELEMENTS],
+        first.last,
+    );
+    if second.stray < POINTS {
+        return ReceivedA::Refused(Refusal::StrayPoint(grid::index((POINTS + second.stray) as u16)));
+    }
+    read(mode, &first.bits, &second.bits, area)
 }

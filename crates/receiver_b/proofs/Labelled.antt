@@ -1,19 +1,28 @@
 -- Points to bits by a scheme, part by part; and their labels.
 -- Assumes nothing.
-use mathlib.Core.Path.{_≡_, refl, sym, ap, _∙_}
+use mathlib.Core.Path.{_≡_, refl, sym, ap, ap₂, _∙_}
 use mathlib.Core.List.{List, [], _∷_, _++_, append-nil, append-assoc, zipWith}
-use Prim.Native.Nat.{ℕ, zero, suc, _<_}
+use Prim.Native.Nat.{ℕ, zero, suc, _*_, _%_, _<_}
 use native.Mathlib.Omega.{arith}
+use lib.IntN.{ℤ}
 use lib.ListN.{length, getD, take}
 use lib.Seq.{take-suc, length-take-le}
-use Rattle.bch.specs.Words.{Bits, digits}
-use Rattle.bch.proofs.Digits.{digits-bits}
-use Rattle.bch.proofs.Mendings.{bits-append}
+use Rattle.bits.specs.Words.{Bits, digits}
+use Rattle.bits.proofs.Digits.{bits-append, digits-bits}
 use Rattle.points.specs.declared.Point.{Point}
 use Rattle.points.specs.declared.Point.the-variants.{Nothing}
+use Rattle.points.specs.declared.Label.{Label}
 use Rattle.points.specs.declared.Label.the-variants.{Stray}
-use Rattle.points.specs.Constellations.{labelNumber}
-use Rattle.payload_b.specs.CodedB.{labelHeld, labelled}
+use Rattle.points.specs.Constellations.{labelOf, labelNumber}
+use Rattle.points.specs.Lent.{labelIn}
+use Rattle.points.proofs.Lending.{label-ours}
+use Rattle.symbols.specs.Grids.{pointAt, received, indexOf}
+use Rattle.symbols.proofs.Readings.{length-received, received-at}
+use Rattle.payload_b.specs.CodedB.{repeated, labelHeld, labelled}
+use Rattle.payload_b.specs.PlanB.{Scheme}
+use Rattle.payload_b.proofs.Schemes.{repeated-long, getD-repeated}
+use Rattle.payload_b.proofs.Mapping.{as-many}
+use Rattle.receiver_b.specs.Steps.{Lent}
 
 pub labelled-append : (a b : List ℕ) (p q : List Point) → length p ≡ length a → labelled (a ++ b) (p ++ q) ≡ labelled a p ++ labelled b q
 unfolding labelled
@@ -40,16 +49,35 @@ bits-labelled (n ∷ ns) (p ∷ ps) = bits-append (digits n _) (labelled ns ps) 
 
 -- ---- the labels of points, one by one
 
-pub length-labels : (ns : List ℕ) (ps : List Point) → length ps ≡ length ns → length (zipWith labelHeld ns ps) ≡ length ns
+-- a label looked up in our tables is that of the point (i, q), which the code holds as x and y
+pub label-read : {cells quadrants scheme : List ℕ} → Lent cells quadrants scheme → (n : ℕ) (x y i q : ℤ) → x ≡ i → y ≡ q → {r : Label}
+    → r ≡ labelIn cells quadrants n x y → r ≡ labelOf n i q
+label-read lent n x y i q ei eq e = rw (lent .cells-are, lent .quadrants-are, ei, eq) at e ∙ label-ours n i q
+
+length-labels : (ns : List ℕ) (ps : List Point) → length ps ≡ length ns → length (zipWith labelHeld ns ps) ≡ length ns
 unfolding zipWith
 length-labels [] ps e = refl
 length-labels (n ∷ ns) [] e = absurd (omega arith)
 length-labels (n ∷ ns) (p ∷ ps) e = ap suc (length-labels ns ps (omega arith))
 
-pub label-at : (ns : List ℕ) (ps : List Point) (i : ℕ) → i < length ns → i < length ps
+label-at : (ns : List ℕ) (ps : List Point) (i : ℕ) → i < length ns → i < length ps
     → getD (zipWith labelHeld ns ps) i Stray ≡ labelHeld (getD ns i 0) (getD ps i Nothing)
 unfolding zipWith
 label-at [] ps i h k = absurd (omega arith)
 label-at (n ∷ ns) [] i h k = absurd (omega arith)
 label-at (n ∷ ns) (p ∷ ps) zero h k = refl
 label-at (n ∷ ns) (p ∷ ps) (suc i) h k = label-at ns ps i (omega arith) (omega arith)
+
+-- those of m OFDM symbols
+module _ {scheme : List ℕ} (good : Scheme scheme) (m : ℕ) (is qs : List ℤ) where
+  abbrev pub labels : List Label
+  labels = zipWith labelHeld (repeated m scheme) (received m is qs)
+
+  pub labels-long : length labels ≡ 210 * m
+  labels-long = length-labels _ _ (as-many scheme (good .long) m is qs) ∙ repeated-long scheme (good .long) m
+
+  pub labels-at : (place : ℕ) → place < 210 * m → getD labels place Stray ≡ labelHeld (getD scheme (place % 210) 0) (pointAt is qs (indexOf place))
+  labels-at place l =
+      let entry : getD (repeated m scheme) place 0 ≡ getD scheme (place % 210) 0 = rw (good .long) at (getD-repeated scheme m place (rw (good .long) l)) in
+      label-at _ _ place (omega (arith, repeated-long scheme (good .long) m)) (omega (arith, length-received m is qs))
+      ∙ ap₂ labelHeld entry (received-at m is qs place l)

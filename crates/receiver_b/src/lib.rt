@@ -11,10 +11,12 @@ mod receiver;
 mod stream;
 mod symbol;
 
-use payload::Refusal;
-use payload_b::ReceivedB;
+use answers::ReceivedB;
+use answers::Refusal;
 use payload_b::plan;
 use payload_b::plan::Verdict;
+use symbols::grid;
+use symbols::grid::SUB_CARRIERS;
 
 // Receives a frame of so many bytes, and writes it to the first of the area.
 pub fn receive_b(
@@ -30,14 +32,14 @@ pub fn receive_b(
     let verdict = plan::judged(mode, size, scheme);
     match verdict {
         Verdict::Fails(why) => ReceivedB::Refused(why),
-        Verdict::Passes(symbols) => {
-            if !payload::room(256 * symbols, i, q) {
+        Verdict::Passes(plan) => {
+            if !grid::room(SUB_CARRIERS * plan.symbols, i, q) {
                 return ReceivedB::Refused(Refusal::NoRoom);
             }
             if area.len() < size {
                 return ReceivedB::Refused(Refusal::NoRoom);
             }
-            receiver::receive(mode, size, scheme, symbols, i, q, area)
+            receiver::receive(mode, size, scheme, plan, i, q, area)
         }
     }
 }

@@ -2,20 +2,20 @@
 ghost use mathlib.Core.Path.{_≡_};
 ghost use mathlib.Core.Bool.{cond};
 ghost use mathlib.Core.List.{_++_};
-ghost use Prim.Native.Nat.{_*_, _≤_};
+ghost use Prim.Native.Nat.{_≤_};
 ghost use lib.ListN.{length, drop, replicate};
-ghost use Rattle.payload_b.specs.CodedB.{symbolsFor};
 ghost use Rattle.payload_b.specs.PromiseB.{pointsCheckedB, bitsReceived, ReceivesB};
-ghost use Rattle.payload_b.specs.PlanB.{Plan};
-ghost use Rattle.receiver_b.specs.HeldB.{settledB};
+ghost use Rattle.receiver_b.specs.Steps.{Receivable, settledB};
 use crate::stream;
 use crate::stream::Tally;
 use crate::symbol;
-use payload::Refusal;
-use payload::grid;
-use payload_b::ReceivedB;
-use payload_b::plan;
+use answers::ReceivedB;
+use answers::Refusal;
+use payload_b::plan::Plan;
 use points::constellation;
+use symbols::grid;
+use symbols::grid::POINTS;
+use symbols::grid::SUB_CARRIERS;
 
 // Makes each element of out zero.
 fn clear(out: &mut [u8])
@@ -40,39 +40,37 @@ fn settle(s: Tally, size: usize, area: &mut [u8]) -> ReceivedB
     ReceivedB::Refused(Refusal::Uncorrectable(s.done))
 }
 
-// Checks 7 and 8, and then symbol after symbol of the m needed.
+// Checks 7 and 8, and then symbol after symbol of those needed.
 pub(crate) fn receive(
     mode: u8,
     size: usize,
     scheme: &[u8],
-    m: usize,
+    plan: Plan,
     i: &[i16],
     q: &[i16],
     area: &mut [u8],
 ) -> ReceivedB
-    requires { ⌜ Plan mode size (now scheme) × (m ≡ symbolsFor mode size (now scheme)) × (size ≤ length (now area)) ⌝ }
-    requires { ⌜ (256 * m ≤ length (now i)) × (256 * m ≤ length (now q)) ⌝ }
-    ensures { λ r. ⌜ ReceivesB (pointsCheckedB m (now (scheme .entry)) (now (i .entry)) (now (q .entry))) mode size (bitsReceived mode size (now (scheme .entry)) (now (i .entry)) (now (q .entry))) (now (area .entry)) r (now (area .exit)) ⌝ }
+    requires { ⌜ Receivable mode size (now scheme) plan (now i) (now q) (now area) ⌝ }
+    ensures { λ r. ⌜ ReceivesB (pointsCheckedB (plan .symbols) (now (scheme .entry)) (now (i .entry)) (now (q .entry))) mode size (bitsReceived mode size (now (scheme .entry)) (now (i .entry)) (now (q .entry))) (now (area .entry)) r (now (area .exit)) ⌝ }
 {
-    let filled = grid::first_filled(i, q, 256 * m);
-    if filled < 256 * m {
-        return ReceivedB::Refused(Refusal::Filled(filled));
+    let m = plan.symbols;
+    let occupied = grid::first_occupied(i, q, SUB_CARRIERS * m);
+    if occupied < SUB_CARRIERS * m {
+        return ReceivedB::Refused(Refusal::Occupied(occupied));
     }
     let cells = constellation::cells();
     let quadrants = constellation::quadrants();
     let stray = symbol::first_stray(&cells, &quadrants, scheme, m, i, q);
-    if stray < 210 * m {
+    if stray < POINTS * m {
         return ReceivedB::Refused(Refusal::StrayPoint(grid::index(stray as u16)));
     }
-    let blocks = size / plan::block_bytes(mode);
     let end = stream::take_symbols(
         &cells,
         &quadrants,
         scheme,
         mode,
-        blocks,
+        plan,
         stream::start(),
-        m,
         i,
         q,
         area,

@@ -3,16 +3,18 @@ ghost use mathlib.Core.Path.{_≡_};
 ghost use mathlib.Core.List.{[], _∷_};
 ghost use Prim.Native.Nat.{_*_, _≤_, _<_};
 ghost use lib.ListN.{length};
-ghost use Rattle.bch.specs.Words.{Bits};
-ghost use Rattle.points.specs.Lent.{ourCells, ourQuadrants};
-ghost use Rattle.payload.specs.Grids.{pointsFrom, received};
+ghost use Rattle.bits.specs.Words.{Bits};
+ghost use Rattle.symbols.specs.Grid.{symbolPoints};
+ghost use Rattle.symbols.specs.Grids.{pointsFrom, received};
 ghost use Rattle.payload_b.specs.CodedB.{blockBytes, blockBits, repeated, labelled};
-ghost use Rattle.payload_b.specs.PlanB.{Scheme};
-ghost use Rattle.receiver_b.specs.HeldB.{Sane, GoesOn, Full, Closes, began};
+ghost use Rattle.receiver_b.specs.Steps.{Sane, TakesIn, Ready, Full, Closes, began};
 use crate::block;
+use crate::block::Finished;
 use crate::symbol;
 use payload::scrambler;
 use payload_b::plan;
+use payload_b::plan::Plan;
+use symbols::grid::SUB_CARRIERS;
 
 // How many bits the unfinished block has, the blocks done, the scrambler's register, the bits mended; not good once a block could not be mended.
 pub struct Tally {
@@ -52,13 +54,12 @@ fn close(mode: u8, from: Tally, block: &[u8], area: &mut [u8]) -> Tally
     let size = from.count;
     let step = plan::block_bytes(mode);
     let at = step * from.done;
-    let end = block::finish(
+    let Finished::Mended { count, register } = block::finish(
         mode,
         &block[0..size],
         from.register,
         &mut area[at..at + step],
-    );
-    if !end.found {
+    ) else {
         return Tally {
             count: 0,
             done: from.done,
@@ -66,12 +67,12 @@ fn close(mode: u8, from: Tally, block: &[u8], area: &mut [u8]) -> Tally
             mended: from.mended,
             good: false,
         };
-    }
+    };
     Tally {
         count: 0,
         done: from.done + 1,
-        register: end.register,
-        mended: from.mended + end.count,
+        register,
+        mended: from.mended + count,
         good: true,
     }
 }
@@ -87,7 +88,7 @@ fn take_bit(
     area: &mut [u8],
 ) -> Tally
     requires { ⌜ (mode ≤ 2) × (size ≡ blockBits mode) × Sane mode blocks (now block) from × (bit < 2) × (blockBytes mode * blocks ≤ length (now area)) ⌝ }
-    ensures { λ s. ⌜ GoesOn mode blocks (bit ∷ []) (now (area .entry)) (now (block .entry)) from (now (area .exit)) (now (block .exit)) s ⌝ }
+    ensures { λ s. ⌜ TakesIn mode blocks (bit ∷ []) (now (area .entry)) (now (block .entry)) from (now (area .exit)) (now (block .exit)) s ⌝ }
 {
     if !from.good {
         return from;
@@ -113,7 +114,7 @@ fn take_bit(
 // Takes bits in: where they make up a block, it is mended and its bytes are written.
 fn take_bits(mode: u8, blocks: usize, from: Stream, bits: &[u8], area: &mut [u8]) -> Stream
     requires { ⌜ (mode ≤ 2) × Sane mode blocks (from .block) (from .tally) × Bits (now bits) × (blockBytes mode * blocks ≤ length (now area)) ⌝ }
-    ensures { λ s. ⌜ GoesOn mode blocks (now (bits .entry)) (now (area .entry)) (from .block) (from .tally) (now (area .exit)) (s .block) (s .tally) ⌝ }
+    ensures { λ s. ⌜ TakesIn mode blocks (now (bits .entry)) (now (area .entry)) (from .block) (from .tally) (now (area .exit)) (s .block) (s .tally) ⌝ }
 {
     let size = plan::block_bits(mode);
     let mut block = from.block;
@@ -132,49 +133,46 @@ fn take_symbol(
     quadrants: &[u64; 106],
     scheme: &[u8],
     mode: u8,
-    blocks: usize,
+    plan: Plan,
     from: Stream,
     i: &[i16],
     q: &[i16],
     area: &mut [u8],
 ) -> Stream
-    requires { ⌜ (now cells ≡ ourCells) × (now quadrants ≡ ourQuadrants) × Scheme (now scheme) × (256 ≤ length (now i)) × (256 ≤ length (now q)) ⌝ }
-    requires { ⌜ (mode ≤ 2) × Sane mode blocks (from .block) (from .tally) × (blockBytes mode * blocks ≤ length (now area)) ⌝ }
-    ensures { λ s. ⌜ GoesOn mode blocks (labelled (now (scheme .entry)) (pointsFrom (now (i .entry)) (now (q .entry)) 1 210)) (now (area .entry)) (from .block) (from .tally) (now (area .exit)) (s .block) (s .tally) ⌝ }
+    requires { ⌜ Ready (now cells) (now quadrants) (now scheme) mode plan from 1 (now i) (now q) (now area) ⌝ }
+    ensures { λ s. ⌜ TakesIn mode (plan .blocks) (labelled (now (scheme .entry)) (pointsFrom (now (i .entry)) (now (q .entry)) 1 symbolPoints)) (now (area .entry)) (from .block) (from .tally) (now (area .exit)) (s .block) (s .tally) ⌝ }
 {
-    let sum = plan::sum(scheme);
+    let sum = plan.sum;
     let bits = symbol::read_symbol(cells, quadrants, scheme, i, q);
-    take_bits(mode, blocks, from, &bits[0..sum], area)
+    take_bits(mode, plan.blocks, from, &bits[0..sum], area)
 }
 
-// Takes m OFDM symbols in.
+// Takes the OFDM symbols in, as many as the plan says.
 pub(crate) fn take_symbols(
     cells: &[u64; 64],
     quadrants: &[u64; 106],
     scheme: &[u8],
     mode: u8,
-    blocks: usize,
+    plan: Plan,
     from: Stream,
-    m: usize,
     i: &[i16],
     q: &[i16],
     area: &mut [u8],
 ) -> Stream
-    requires { ⌜ (now cells ≡ ourCells) × (now quadrants ≡ ourQuadrants) × Scheme (now scheme) × (256 * m ≤ length (now i)) × (256 * m ≤ length (now q)) ⌝ }
-    requires { ⌜ (mode ≤ 2) × Sane mode blocks (from .block) (from .tally) × (blockBytes mode * blocks ≤ length (now area)) ⌝ }
-    ensures { λ s. ⌜ GoesOn mode blocks (labelled (repeated m (now (scheme .entry))) (received m (now (i .entry)) (now (q .entry)))) (now (area .entry)) (from .block) (from .tally) (now (area .exit)) (s .block) (s .tally) ⌝ }
+    requires { ⌜ Ready (now cells) (now quadrants) (now scheme) mode plan from (plan .symbols) (now i) (now q) (now area) ⌝ }
+    ensures { λ s. ⌜ TakesIn mode (plan .blocks) (labelled (repeated (plan .symbols) (now (scheme .entry))) (received (plan .symbols) (now (i .entry)) (now (q .entry)))) (now (area .entry)) (from .block) (from .tally) (now (area .exit)) (s .block) (s .tally) ⌝ }
 {
     let mut state = from;
     let mut s: usize = 0;
-    while s < m {
-        let at = 256 * s;
-        let end = at + 256;
+    while s < plan.symbols {
+        let at = SUB_CARRIERS * s;
+        let end = at + SUB_CARRIERS;
         state = take_symbol(
             cells,
             quadrants,
             scheme,
             mode,
-            blocks,
+            plan,
             state,
             &i[at..end],
             &q[at..end],

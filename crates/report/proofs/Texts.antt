@@ -7,7 +7,7 @@ use native.Mathlib.Omega.{arith}
 use borrow.Rule.Slice.PartMut.{putMid}
 use lib.ListN.{length, take, drop, replicate, length-append, length-replicate, replicate-append-replicate}
 use lib.Seq.{take-at, drop-at, take-append-seam, drop-append-add}
-use Rattle.payload.proofs.Copies.{put-part}
+use Rattle.bits.proofs.Copies.{put-part}
 use Rattle.report.specs.declared.Text.{Text}
 use Rattle.report.specs.Lines.{textOf, Counted}
 use Rattle.report.specs.Made.{Room}

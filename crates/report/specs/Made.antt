@@ -8,10 +8,8 @@ use Prim.Native.Nat.{ℕ, zero, suc, _+_, _/_, _%_, _≤_}
 use lib.Dec.{ltb, eqb}
 use lib.ListN.{length}
 use Rattle.payload_a.specs.CodedA.{bytesA}
-use Rattle.payload.specs.Answers.{numberOf, placeOf}
-use Rattle.payload.specs.declared.Refusal.the-variants.{WrongLength}
-use Rattle.payload_a.specs.declared.ReceivedA.{ReceivedA}
-use Rattle.payload_a.specs.declared.ReceivedA.the-variants.{Accepted, Refused}
+use Rattle.answers.specs.Answers.{accepted, refused}
+use Rattle.answers.specs.declared.Told.{Told}
 use Rattle.report.specs.declared.Text.{Text}
 use Rattle.report.specs.Lines.{ascii, textOf}
 
@@ -33,17 +31,17 @@ acceptedLines bytes mended differing =
 unfoldable pub refusedLine : ℕ → ℕ → List ℕ
 refusedLine number place = ascii "refused " ++ decimal number ++ ascii " place " ++ decimal place ++ ascii "\n"
 
-abbrev pub answerLines : ℕ → ReceivedA → List ℕ
-answerLines bytes (Accepted mended differing) = acceptedLines bytes mended differing
-answerLines bytes (Refused refusal) = refusedLine (numberOf refusal) (placeOf refusal)
+-- the lines for what an answer tells
+abbrev pub answerLines : ℕ → Told → List ℕ
+answerLines bytes t = cond (eqb (t .number) 0) (acceptedLines bytes (t .mended) (t .protected)) (refusedLine (t .number) (t .place))
 
 -- the mode for a frame of n bytes: mode 1 refuses all but 58
 abbrev pub modeFor : ℕ → ℕ
 modeFor n = cond (eqb n 94) 0 1
 
 -- what comes of sending a frame of n bytes and receiving it back
-abbrev pub tripOf : ℕ → ℕ → ReceivedA
-tripOf mode n = cond (eqb n (bytesA mode)) (Accepted 0 0) (Refused WrongLength)
+abbrev pub tripOf : ℕ → ℕ → Told
+tripOf mode n = cond (eqb n (bytesA mode)) (accepted 0 0) (refused 2 0)
 
 -- a text with room for n bytes more
 pub record Room (n : ℕ) (t : Text) : Type 0 where

@@ -6,10 +6,11 @@
 ghost use mathlib.Core.Path.{_≡_};
 ghost use Prim.Native.Nat.{_≤_};
 ghost use lib.ListN.{length};
+ghost use Rattle.payload_a.specs.PromiseA.{elementsA};
 ghost use Rattle.report.specs.Lines.{linesOf, textOf, Counted};
 ghost use Rattle.report.specs.Made.{modeFor, tripOf};
-use payload::Sent;
-use payload_a::ReceivedA;
+use answers::Told;
+use payload_a::ELEMENTS;
 
 mod lines;
 mod writer;
@@ -28,24 +29,25 @@ fn mode_for(n: usize) -> u8
 }
 
 // Room for the levels of two OFDM symbols.
-fn levels() -> [i16; 512]
-    ensures { λ r. ⌜ 512 ≡ length r ⌝ }
+fn levels() -> [i16; ELEMENTS]
+    ensures { λ r. ⌜ elementsA ≡ length r ⌝ }
 {
-    [0; 512]
+    [0; ELEMENTS]
 }
 
-// Sends a frame and receives it back: the receiver's answer, or the sender's refusal.
-fn trip(mode: u8, frame: &[u8]) -> ReceivedA
+// Sends a frame and receives it back: what the receiver tells, or the sender's refusal.
+fn trip(mode: u8, frame: &[u8]) -> Told
     requires { ⌜ mode ≤ 1 ⌝ }
     ensures { λ r. ⌜ r ≡ tripOf mode (length (now (frame .entry))) ⌝ }
 {
     let mut i = levels();
     let mut q = levels();
-    if let Sent::Refused(refusal) = sender_a::send_a(mode, frame, &mut i, &mut q) {
-        return ReceivedA::Refused(refusal);
+    let sent = answers::of_written(sender_a::send_a(mode, frame, &mut i, &mut q));
+    if sent.number != 0 {
+        return sent;
     }
     let mut area = [0u8; 94];
-    receiver_a::receive_a(mode, &i, &q, &mut area)
+    answers::of_received_a(receiver_a::receive_a(mode, &i, &q, &mut area))
 }
 
 // What the bench program writes for a frame.

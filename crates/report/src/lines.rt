@@ -4,8 +4,7 @@ ghost use Rattle.report.specs.Lines.{textOf};
 ghost use Rattle.report.specs.Made.{acceptedLines, refusedLine, answerLines};
 use crate::Text;
 use crate::writer;
-use payload::answers;
-use payload_a::ReceivedA;
+use answers::Told;
 
 // The two lines for a frame that was received.
 fn accepted(bytes: usize, mended: usize, differing: usize) -> Text
@@ -26,15 +25,13 @@ fn refused(number: usize, place: usize) -> Text
     writer::with(t, b"\n")
 }
 
-// The lines for what was answered to a frame of so many bytes.
-pub(crate) fn answered(bytes: usize, answer: ReceivedA) -> Text
-    ensures { λ r. ⌜ r ≡ textOf (answerLines bytes answer) ⌝ }
+// The lines for what an answer tells of a frame of so many bytes.
+pub(crate) fn answered(bytes: usize, told: Told) -> Text
+    ensures { λ r. ⌜ r ≡ textOf (answerLines bytes told) ⌝ }
 {
-    match answer {
-        ReceivedA::Accepted { mended, protected } => accepted(bytes, mended, protected),
-        ReceivedA::Refused(refusal) => refused(
-            answers::number(refusal) as usize,
-            answers::place(refusal),
-        ),
+    if told.number == 0 {
+        accepted(bytes, told.mended, told.protected)
+    } else {
+        refused(told.number as usize, told.place)
     }
 }

@@ -1,3 +1,3 @@
 -- The laws of the crate.
-pub mod Checking
+pub mod Splitting
 pub mod Symbols

@@ -7,22 +7,24 @@ ghost use Rattle.payload_a.specs.PromiseA.{SendingA};
 mod phases;
 mod sender;
 
-use payload::Refusal;
-use payload::Sent;
+use answers::Refusal;
+use answers::Written;
+use payload_a::ELEMENTS;
+use symbols::grid;
 
 // Sends a frame: mode 0 is uncoded, 94 bytes; mode 1 is coded, 58 bytes. Writes 512 elements of I and of Q.
-pub fn send_a(mode: u8, frame: &[u8], i: &mut [i16], q: &mut [i16]) -> Sent
+pub fn send_a(mode: u8, frame: &[u8], i: &mut [i16], q: &mut [i16]) -> Written
     ensures { λ r. ⌜ SendingA mode (now (frame .entry)) (now (i .entry)) (now (q .entry)) r (now (i .exit)) (now (q .exit)) ⌝ }
 {
     if 1 < mode {
-        return Sent::Refused(Refusal::UnknownMode);
+        return Written::Refused(Refusal::Unknown);
     }
     if frame.len() != payload_a::bytes_a(mode) {
-        return Sent::Refused(Refusal::WrongLength);
+        return Written::Refused(Refusal::WrongLength);
     }
-    if !payload::room(512, i, q) {
-        return Sent::Refused(Refusal::NoRoom);
+    if !grid::room(ELEMENTS, i, q) {
+        return Written::Refused(Refusal::NoRoom);
     }
     sender::send(mode, frame, i, q);
-    Sent::Accepted
+    Written::Accepted
 }

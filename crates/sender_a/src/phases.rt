@@ -1,11 +1,11 @@
 // DQPSK, for Payload A: each OFDM symbol's 420 bits are turned into 210 points, the phase carried on.
 ghost use mathlib.Core.Path.{_≡_};
 ghost use lib.ListN.{length};
-ghost use Rattle.bch.specs.Words.{Bits};
+ghost use Rattle.bits.specs.Words.{Bits};
+ghost use Rattle.payload_a.specs.Segments.{symbolBits};
 ghost use Rattle.sender_a.specs.Phases.{turnedOn};
-use payload::grid::POINTS;
-use payload::point;
 use points::dqpsk;
+use symbols::grid::POINTS;
 
 // The levels of the 210 points of one OFDM symbol, in s order, and the phase of the last.
 pub struct Turned {
@@ -16,7 +16,7 @@ pub struct Turned {
 
 // The points that one OFDM symbol's bits are turned into, from the phase before them.
 pub(crate) fn turn_bits(phase: u16, bits: &[u8]) -> Turned
-    requires { ⌜ Bits (now bits) × (length (now bits) ≡ 420) ⌝ }
+    requires { ⌜ Bits (now bits) × (length (now bits) ≡ symbolBits) ⌝ }
     ensures { λ r. ⌜ r ≡ turnedOn phase (now (bits .entry)) ⌝ }
 {
     let mut is = [0i16; POINTS];
@@ -26,8 +26,8 @@ pub(crate) fn turn_bits(phase: u16, bits: &[u8]) -> Turned
     while s < POINTS {
         last = dqpsk::turned(last, 2 * bits[2 * s] + bits[2 * s + 1]);
         let point = dqpsk::point(last);
-        is[s] = point::level_i(point);
-        qs[s] = point::level_q(point);
+        is[s] = points::level_i(point);
+        qs[s] = points::level_q(point);
         s += 1;
     }
     Turned { is, qs, last }

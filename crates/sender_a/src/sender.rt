@@ -3,21 +3,28 @@ ghost use mathlib.Core.Path.{_≡_};
 ghost use mathlib.Core.List.{[], _∷_, _++_};
 ghost use Prim.Native.Nat.{_+_, _*_, _≤_};
 ghost use lib.ListN.{length, take, drop};
-ghost use Rattle.bch.specs.Words.{Bits, digits};
+ghost use Rattle.bits.specs.Words.{Bits, digits};
 ghost use Rattle.bch.specs.Codes.{code3, encoded};
-ghost use Rattle.payload_a.specs.Segments.{symbolOf, framed};
+ghost use Rattle.payload_a.specs.Segments.{segmentBits, blockBits, symbolOf, framed};
+ghost use Rattle.payload_a.specs.PromiseA.{elementsA};
 ghost use Rattle.payload_a.specs.CodedA.{bytesA, information, blocksA, codedA, sentI, sentQ};
 ghost use Rattle.points.specs.Constellations.{levelI, levelQ};
 ghost use Rattle.points.specs.Dqpsk.{turned};
-ghost use Rattle.payload.specs.Grids.{spread, placed};
+ghost use Rattle.symbols.specs.Grid.{symbolPoints};
+ghost use Rattle.symbols.specs.Grids.{spread, placed};
 ghost use Rattle.sender_a.specs.Phases.{turnedOn};
 use crate::phases;
 use crate::phases::Turned;
-use payload::bits;
-use payload::grid;
 use payload::scrambler;
+use payload_a::ELEMENTS;
 use payload_a::check;
 use payload_a::segments;
+use payload_a::segments::BLOCK;
+use payload_a::segments::CARRIED;
+use payload_a::segments::SEGMENT;
+use payload_a::segments::SYMBOL;
+use symbols::grid;
+use symbols::grid::SUB_CARRIERS;
 
 // The 32 bits of a check, highest power first.
 fn put_check(check: u32, out: &mut [u8])
@@ -41,35 +48,35 @@ fn put_information(frame: &[u8], out: &mut [u8])
 }
 
 // The codeword of code 3 for 248 bits.
-fn block(information: &[u8]) -> [u8; 392]
-    requires { ⌜ Bits (now information) × (length (now information) ≡ 248) ⌝ }
+fn block(information: &[u8]) -> [u8; BLOCK]
+    requires { ⌜ Bits (now information) × (length (now information) ≡ code3 .k) ⌝ }
     ensures { λ r. ⌜ r ≡ encoded code3 (now (information .entry)) ⌝ }
 {
-    let mut out = [0u8; 392];
+    let mut out = [0u8; BLOCK];
     encoder::encode(3, information, &mut out);
     out
 }
 
 // The two blocks of 496 bits.
-fn blocks(information: &[u8]) -> [[u8; 392]; 2]
-    requires { ⌜ Bits (now information) × (length (now information) ≡ 496) ⌝ }
-    ensures { λ r. ⌜ r ≡ encoded code3 (take 248 (now (information .entry))) ∷ encoded code3 (drop 248 (now (information .entry))) ∷ [] ⌝ }
+fn blocks(information: &[u8]) -> [[u8; BLOCK]; 2]
+    requires { ⌜ Bits (now information) × (length (now information) ≡ 2 * code3 .k) ⌝ }
+    ensures { λ r. ⌜ r ≡ encoded code3 (take (code3 .k) (now (information .entry))) ∷ encoded code3 (drop (code3 .k) (now (information .entry))) ∷ [] ⌝ }
 {
     [block(&information[0..248]), block(&information[248..496])]
 }
 
 // The 784 bits of an uncoded frame.
-fn uncoded(frame: &[u8]) -> [u8; 784]
+fn uncoded(frame: &[u8]) -> [u8; CARRIED]
     requires { ⌜ length (now frame) ≡ 94 ⌝ }
     ensures { λ r. ⌜ r ≡ information (now (frame .entry)) ⌝ }
 {
-    let mut out = [0u8; 784];
+    let mut out = [0u8; CARRIED];
     put_information(frame, &mut out);
     out
 }
 
 // The 784 bits of a coded frame.
-fn coded(frame: &[u8]) -> [u8; 784]
+fn coded(frame: &[u8]) -> [u8; CARRIED]
     requires { ⌜ length (now frame) ≡ 58 ⌝ }
     ensures { λ r. ⌜ r ≡ blocksA (information (now (frame .entry))) ⌝ }
 {
@@ -79,7 +86,7 @@ fn coded(frame: &[u8]) -> [u8; 784]
 }
 
 // The 784 bits of a frame, protected fields left out.
-fn carried(mode: u8, frame: &[u8]) -> [u8; 784]
+fn carried(mode: u8, frame: &[u8]) -> [u8; CARRIED]
     requires { ⌜ (mode ≤ 1) × (length (now frame) ≡ bytesA mode) ⌝ }
     ensures { λ r. ⌜ r ≡ codedA mode (now (frame .entry)) ⌝ }
 {
@@ -91,51 +98,51 @@ fn carried(mode: u8, frame: &[u8]) -> [u8; 784]
 }
 
 // The bits of an OFDM symbol with two segments.
-fn symbol(half: &[u8]) -> [u8; 420]
-    requires { ⌜ length (now half) ≡ 392 ⌝ }
-    ensures { λ r. ⌜ r ≡ symbolOf (take 196 (now (half .entry))) (drop 196 (now (half .entry))) ⌝ }
+fn symbol(block: &[u8]) -> [u8; SYMBOL]
+    requires { ⌜ length (now block) ≡ blockBits ⌝ }
+    ensures { λ r. ⌜ r ≡ symbolOf (take segmentBits (now (block .entry))) (drop segmentBits (now (block .entry))) ⌝ }
 {
-    let mut out = [0u8; 420];
+    let mut out = [0u8; SYMBOL];
     segments::put(&segments::FIELD1, 0, &mut out);
-    segments::put(&half[0..196], 10, &mut out);
+    segments::put(&block[0..SEGMENT], 10, &mut out);
     segments::put(&segments::FIELD2, 206, &mut out);
-    segments::put(&half[196..392], 216, &mut out);
+    segments::put(&block[SEGMENT..BLOCK], 216, &mut out);
     segments::put(&segments::FIELD3, 412, &mut out);
     out
 }
 
-// The levels of the OFDM symbol that carries half of 784 bits, from the phase before it.
-fn turn_half(phase: u16, half: &[u8]) -> Turned
-    requires { ⌜ Bits (now half) × (length (now half) ≡ 392) ⌝ }
-    ensures { λ r. ⌜ r ≡ turnedOn phase (symbolOf (take 196 (now (half .entry))) (drop 196 (now (half .entry)))) ⌝ }
+// The levels of the OFDM symbol that carries a block of bits, from the phase before it.
+fn turn_block(phase: u16, block: &[u8]) -> Turned
+    requires { ⌜ Bits (now block) × (length (now block) ≡ blockBits) ⌝ }
+    ensures { λ r. ⌜ r ≡ turnedOn phase (symbolOf (take segmentBits (now (block .entry))) (drop segmentBits (now (block .entry)))) ⌝ }
 {
-    phases::turn_bits(phase, &symbol(half))
+    phases::turn_bits(phase, &symbol(block))
 }
 
 // Puts the levels of two OFDM symbols, 210 of each, one symbol behind the other.
 fn put_both(first: &[i16], second: &[i16], out: &mut [i16])
-    requires { ⌜ (length (now first) ≡ 210) × (length (now second) ≡ 210) × (512 ≤ length (now out)) ⌝ }
-    ensures { λ _. ⌜ now (out .exit) ≡ spread (now (first .entry)) ++ (spread (now (second .entry)) ++ drop 512 (now (out .entry))) ⌝ }
+    requires { ⌜ (length (now first) ≡ symbolPoints) × (length (now second) ≡ symbolPoints) × (elementsA ≤ length (now out)) ⌝ }
+    ensures { λ _. ⌜ now (out .exit) ≡ spread (now (first .entry)) ++ (spread (now (second .entry)) ++ drop elementsA (now (out .entry))) ⌝ }
 {
-    grid::put_levels(first, &mut out[0..256]);
-    grid::put_levels(second, &mut out[256..512]);
+    grid::put_levels(first, &mut out[0..SUB_CARRIERS]);
+    grid::put_levels(second, &mut out[SUB_CARRIERS..ELEMENTS]);
 }
 
 // Puts the points of 784 bits onto the two OFDM symbols.
 fn put_points(bits: &[u8], i: &mut [i16], q: &mut [i16])
-    requires { ⌜ Bits (now bits) × (length (now bits) ≡ 784) × (512 ≤ length (now i)) × (512 ≤ length (now q)) ⌝ }
-    ensures { λ _. ⌜ (now (i .exit) ≡ placed levelI 2 (turned (framed (now (bits .entry)))) ++ drop 512 (now (i .entry))) × (now (q .exit) ≡ placed levelQ 2 (turned (framed (now (bits .entry)))) ++ drop 512 (now (q .entry))) ⌝ }
+    requires { ⌜ Bits (now bits) × (length (now bits) ≡ 2 * blockBits) × (elementsA ≤ length (now i)) × (elementsA ≤ length (now q)) ⌝ }
+    ensures { λ _. ⌜ (now (i .exit) ≡ placed levelI 2 (turned (framed (now (bits .entry)))) ++ drop elementsA (now (i .entry))) × (now (q .exit) ≡ placed levelQ 2 (turned (framed (now (bits .entry)))) ++ drop elementsA (now (q .entry))) ⌝ }
 {
-    let first = turn_half(0, &bits[0..392]);
-    let second = turn_half(first.last, &bits[392..784]);
+    let first = turn_block(0, &bits[0..BLOCK]);
+    let second = turn_block(first.last, &bits[BLOCK..CARRIED]);
     put_both(&first.is, &second.is, i);
     put_both(&first.qs, &second.qs, q);
 }
 
 // Sends a frame of the mode's length.
 pub(crate) fn send(mode: u8, frame: &[u8], i: &mut [i16], q: &mut [i16])
-    requires { ⌜ (mode ≤ 1) × (length (now frame) ≡ bytesA mode) × (512 ≤ length (now i)) × (512 ≤ length (now q)) ⌝ }
-    ensures { λ _. ⌜ (now (i .exit) ≡ sentI mode (now (frame .entry)) ++ drop 512 (now (i .entry))) × (now (q .exit) ≡ sentQ mode (now (frame .entry)) ++ drop 512 (now (q .entry))) ⌝ }
+    requires { ⌜ (mode ≤ 1) × (length (now frame) ≡ bytesA mode) × (elementsA ≤ length (now i)) × (elementsA ≤ length (now q)) ⌝ }
+    ensures { λ _. ⌜ (now (i .exit) ≡ sentI mode (now (frame .entry)) ++ drop elementsA (now (i .entry))) × (now (q .exit) ≡ sentQ mode (now (frame .entry)) ++ drop elementsA (now (q .entry))) ⌝ }
 {
     put_points(&carried(mode, frame), i, q);
 }

@@ -7,25 +7,27 @@ ghost use Rattle.payload_b.specs.PromiseB.{SendingB};
 mod sender;
 mod symbol;
 
-use payload::Refusal;
-use payload::Sent;
+use answers::Refusal;
+use answers::Written;
 use payload_b::plan;
 use payload_b::plan::Verdict;
+use symbols::grid;
+use symbols::grid::SUB_CARRIERS;
 
 // Sends a frame by a scheme of bits per point: mode 0 is uncoded, 1 uses (508,472), 2 uses (504,432). Writes 256 elements of I and of Q for each
 // OFDM symbol needed.
-pub fn send_b(mode: u8, frame: &[u8], scheme: &[u8], i: &mut [i16], q: &mut [i16]) -> Sent
+pub fn send_b(mode: u8, frame: &[u8], scheme: &[u8], i: &mut [i16], q: &mut [i16]) -> Written
     ensures { λ r. ⌜ SendingB mode (now (frame .entry)) (now (scheme .entry)) (now (i .entry)) (now (q .entry)) r (now (i .exit)) (now (q .exit)) ⌝ }
 {
     let verdict = plan::judged(mode, frame.len(), scheme);
     match verdict {
-        Verdict::Fails(why) => Sent::Refused(why),
-        Verdict::Passes(symbols) => {
-            if !payload::room(256 * symbols, i, q) {
-                return Sent::Refused(Refusal::NoRoom);
+        Verdict::Fails(why) => Written::Refused(why),
+        Verdict::Passes(plan) => {
+            if !grid::room(SUB_CARRIERS * plan.symbols, i, q) {
+                return Written::Refused(Refusal::NoRoom);
             }
-            sender::send(mode, frame, scheme, i, q);
-            Sent::Accepted
+            sender::send(mode, frame, scheme, plan.sum, i, q);
+            Written::Accepted
         }
     }
 }

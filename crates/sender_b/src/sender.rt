@@ -1,24 +1,20 @@
 // Payload B, from a frame to the points of as many OFDM symbols as it needs: block by block, and out of the blocks symbol by symbol.
 ghost use mathlib.Core.Path.{_≡_};
-ghost use mathlib.Core.List.{List, _++_, map};
-ghost use Prim.Native.Nat.{ℕ, _+_, _-_, _*_, _≤_, _<_};
-ghost use lib.IntN.{ℤ};
-ghost use lib.ListN.{length, take, drop};
-ghost use Rattle.bch.specs.Words.{Bits};
+ghost use Prim.Native.Nat.{_+_, _-_, _*_, _≤_, _<_};
+ghost use lib.ListN.{length, take};
+ghost use Rattle.bits.specs.Words.{Bits};
 ghost use Rattle.points.specs.Constellations.{levelI, levelQ};
-ghost use Rattle.points.specs.Lent.{ourCells};
-ghost use Rattle.payload.specs.Bits.{bitsOf};
+ghost use Rattle.bits.specs.Bytes.{bitsOf};
 ghost use Rattle.payload.specs.Scrambler.{scrambledFrom, registerAfter};
-ghost use Rattle.payload.specs.Grids.{spread};
-ghost use Rattle.payload_b.specs.CodedB.{blockBytes, blockBits, blockOf, sumOf, symbolsFor, mapped, sentB};
-ghost use Rattle.payload_b.specs.PlanB.{Scheme, Plan};
-ghost use Rattle.sender_b.specs.HeldB.{Underway, Roomy, Flushed};
+ghost use Rattle.symbols.specs.Grid.{subCarriers};
+ghost use Rattle.payload_b.specs.CodedB.{blockBytes, blockBits, blockOf, sumOf};
+ghost use Rattle.sender_b.specs.Steps.{Supplied, Behind, stateOf, Pushed, Ready, Flushed, Passed, AllSent};
 use crate::symbol;
-use payload::bits;
 use payload::scrambler;
 use payload_b::plan;
 use payload_b::zeros;
 use points::constellation;
+use symbols::grid::SUB_CARRIERS;
 
 // How many bits wait for the next OFDM symbol, and how many OFDM symbols are sent.
 pub struct Outgoing {
@@ -26,13 +22,12 @@ pub struct Outgoing {
     pub symbol: usize,
 }
 
-// Puts what is sent for a block's bytes at the front of out; answers the scrambler's register after.
-fn put_block(mode: u8, bytes: &[u8], register: u16, out: &mut [u8]) -> u16
-    requires { ⌜ (mode ≤ 2) × (length (now bytes) ≡ blockBytes mode) × (length (now out) ≡ 508) ⌝ }
+// Puts what is sent for a block's bytes at the front of out, by way of their bits; answers the scrambler's register after.
+fn put_block(mode: u8, bytes: &[u8], register: u16, information: &mut [u8], out: &mut [u8]) -> u16
+    requires { ⌜ (mode ≤ 2) × (length (now bytes) ≡ blockBytes mode) × (length (now information) ≡ 508) × (length (now out) ≡ 508) ⌝ }
     ensures { λ r. ⌜ (take (blockBits mode) (now (out .exit)) ≡ blockOf mode (scrambledFrom register (bitsOf (now (bytes .entry))))) × (r ≡ registerAfter (8 * blockBytes mode) register) ⌝ }
 {
     let k = bytes.len() * 8;
-    let mut information = zeros::no_block();
     bits::put_bits(bytes, &mut information[0..k]);
     let after = scrambler::scramble(register, &mut information[0..k]);
     put_coded(mode, &information[0..k], out);
@@ -60,12 +55,12 @@ fn put_next(
     i: &mut [i16],
     q: &mut [i16],
 )
-    requires { ⌜ (now cells ≡ ourCells) × Scheme (now scheme) × Bits (now bits) × (length (now bits) ≡ sumOf (now scheme)) ⌝ }
-    requires { ⌜ (256 * symbol + 256 ≤ length (now i)) × (256 * symbol + 256 ≤ length (now q)) ⌝ }
-    ensures { λ _. ⌜ (now (i .exit) ≡ take (256 * symbol) (now (i .entry)) ++ (spread (map levelI (mapped (now (scheme .entry)) (now (bits .entry)))) ++ drop (256 * symbol + 256) (now (i .entry)))) × (now (q .exit) ≡ take (256 * symbol) (now (q .entry)) ++ (spread (map levelQ (mapped (now (scheme .entry)) (now (bits .entry)))) ++ drop (256 * symbol + 256) (now (q .entry)))) ⌝ }
+    requires { ⌜ Supplied (now cells) (now scheme) (length (now bits)) ⌝ }
+    requires { ⌜ (subCarriers * symbol + subCarriers ≤ length (now i)) × (subCarriers * symbol + subCarriers ≤ length (now q)) ⌝ }
+    ensures { λ _. ⌜ Behind levelI (now (scheme .entry)) (now (bits .entry)) symbol (now (i .entry)) (now (i .exit)) × Behind levelQ (now (scheme .entry)) (now (bits .entry)) symbol (now (q .entry)) (now (q .exit)) ⌝ }
 {
-    let at = 256 * symbol;
-    let end = at + 256;
+    let at = SUB_CARRIERS * symbol;
+    let end = at + SUB_CARRIERS;
     symbol::put_symbol(cells, scheme, bits, &mut i[at..end], &mut q[at..end]);
 }
 
@@ -73,17 +68,16 @@ fn put_next(
 fn push(
     cells: &[u64; 64],
     scheme: &[u8],
+    sum: usize,
     bits: &[u8],
     pending: &mut [u8],
     from: Outgoing,
     i: &mut [i16],
     q: &mut [i16],
 ) -> Outgoing
-    requires { ⌜ (now cells ≡ ourCells) × Scheme (now scheme) × Bits (now bits) × Bits (now pending) × (length (now pending) ≡ 2100) × (from .count < sumOf (now scheme)) ⌝ }
-    requires { ⌜ Roomy (sumOf (now scheme)) from (length (now bits)) (now i) (now q) ⌝ }
-    ensures { λ o. ⌜ ((fed : List ℕ) (is₀ qs₀ : List ℤ) → Underway (now (scheme .entry)) fed (now (pending .entry)) (now (i .entry)) (now (q .entry)) is₀ qs₀ from → Underway (now (scheme .entry)) (fed ++ now (bits .entry)) (now (pending .exit)) (now (i .exit)) (now (q .exit)) is₀ qs₀ o) ⌝ }
+    requires { ⌜ Ready (now cells) (now scheme) sum (stateOf (now pending) (now i) (now q) from) (length (now bits)) ⌝ }
+    ensures { λ o. ⌜ (o .count < sumOf (now (scheme .entry))) × Pushed (now (scheme .entry)) (now (bits .entry)) (stateOf (now (pending .entry)) (now (i .entry)) (now (q .entry)) from) (stateOf (now (pending .exit)) (now (i .exit)) (now (q .exit)) o) ⌝ }
 {
-    let sum = plan::sum(scheme);
     let mut count = from.count;
     let mut symbol = from.symbol;
     let mut j: usize = 0;
@@ -104,33 +98,33 @@ fn push(
 fn flush(
     cells: &[u64; 64],
     scheme: &[u8],
+    sum: usize,
     pending: &mut [u8],
     from: Outgoing,
     i: &mut [i16],
     q: &mut [i16],
 )
-    requires { ⌜ (now cells ≡ ourCells) × Scheme (now scheme) × Bits (now pending) × (length (now pending) ≡ 2100) × (from .count < sumOf (now scheme)) ⌝ }
-    requires { ⌜ Roomy (sumOf (now scheme)) from (sumOf (now scheme) - 1) (now i) (now q) ⌝ }
-    ensures { λ _. ⌜ ((fed : List ℕ) (is₀ qs₀ : List ℤ) → Underway (now (scheme .entry)) fed (now (pending .entry)) (now (i .entry)) (now (q .entry)) is₀ qs₀ from → Flushed (now (scheme .entry)) fed (now (i .exit)) (now (q .exit)) is₀ qs₀) ⌝ }
+    requires { ⌜ Ready (now cells) (now scheme) sum (stateOf (now pending) (now i) (now q) from) (sum - 1) ⌝ }
+    ensures { λ _. ⌜ Flushed (now (scheme .entry)) (stateOf (now (pending .entry)) (now (i .entry)) (now (q .entry)) from) (now (pending .exit)) (now (i .exit)) (now (q .exit)) ⌝ }
 {
     let count = from.count;
     if count == 0 {
         return;
     }
-    let left = plan::sum(scheme) - count;
+    let left = sum - count;
     let none = zeros::no_bits();
-    push(cells, scheme, &none[0..left], pending, from, i, q);
+    push(cells, scheme, sum, &none[0..left], pending, from, i, q);
 }
 
 // Sends a frame whose checks pass.
-pub(crate) fn send(mode: u8, frame: &[u8], scheme: &[u8], i: &mut [i16], q: &mut [i16])
-    requires { ⌜ Plan mode (length (now frame)) (now scheme) ⌝ }
-    requires { ⌜ (256 * symbolsFor mode (length (now frame)) (now scheme) ≤ length (now i)) × (256 * symbolsFor mode (length (now frame)) (now scheme) ≤ length (now q)) ⌝ }
-    ensures { λ _. ⌜ (now (i .exit) ≡ sentB levelI mode (now (frame .entry)) (now (scheme .entry)) ++ drop (256 * symbolsFor mode (length (now (frame .entry))) (now (scheme .entry))) (now (i .entry))) × (now (q .exit) ≡ sentB levelQ mode (now (frame .entry)) (now (scheme .entry)) ++ drop (256 * symbolsFor mode (length (now (frame .entry))) (now (scheme .entry))) (now (q .entry))) ⌝ }
+pub(crate) fn send(mode: u8, frame: &[u8], scheme: &[u8], sum: usize, i: &mut [i16], q: &mut [i16])
+    requires { ⌜ Passed mode (now frame) (now scheme) sum (now i) (now q) ⌝ }
+    ensures { λ _. ⌜ AllSent levelI mode (now (frame .entry)) (now (scheme .entry)) (now (i .entry)) (now (i .exit)) × AllSent levelQ mode (now (frame .entry)) (now (scheme .entry)) (now (q .entry)) (now (q .exit)) ⌝ }
 {
     let cells = constellation::cells();
     let step = plan::block_bytes(mode);
     let size = plan::block_bits(mode);
+    let mut information = zeros::no_block();
     let mut block = zeros::no_block();
     let mut pending = zeros::no_bits();
     let mut going = Outgoing {
@@ -140,9 +134,24 @@ pub(crate) fn send(mode: u8, frame: &[u8], scheme: &[u8], i: &mut [i16], q: &mut
     let mut register = scrambler::START;
     let mut at: usize = 0;
     while at < frame.len() {
-        register = put_block(mode, &frame[at..at + step], register, &mut block);
-        going = push(&cells, scheme, &block[0..size], &mut pending, going, i, q);
+        register = put_block(
+            mode,
+            &frame[at..at + step],
+            register,
+            &mut information,
+            &mut block,
+        );
+        going = push(
+            &cells,
+            scheme,
+            sum,
+            &block[0..size],
+            &mut pending,
+            going,
+            i,
+            q,
+        );
         at += step;
     }
-    flush(&cells, scheme, &mut pending, going, i, q);
+    flush(&cells, scheme, sum, &mut pending, going, i, q);
 }

@@ -7,18 +7,18 @@ use lib.IntN.{ℤ}
 use lib.ListN.{length}
 use mir.Syntax.{w16}
 use mir.Val.{ofZ}
-use Rattle.trial.specs.Format.{littleEndian, packed}
+use Rattle.trial.specs.Format.{littleEndian, levelBytes}
 
 pub length-littleEndian : (k n : ℕ) → length (littleEndian k n) ≡ k
 unfolding littleEndian
 length-littleEndian zero n = refl
 length-littleEndian (suc k) n = ap suc (length-littleEndian k (n / 256))
 
-packed-append : (xs ys : List ℤ) → packed (xs ++ ys) ≡ packed xs ++ packed ys
-unfolding packed
+packed-append : (xs ys : List ℤ) → levelBytes (xs ++ ys) ≡ levelBytes xs ++ levelBytes ys
+unfolding levelBytes
 packed-append [] ys = refl
 packed-append (x ∷ xs) ys = rw (packed-append xs ys, append-assoc)
 
-pub packed-snoc : (xs : List ℤ) (x : ℤ) → packed (xs ++ (x ∷ [])) ≡ packed xs ++ littleEndian 2 (ofZ w16 x)
-unfolding packed
-packed-snoc xs x = packed-append xs (x ∷ []) ∙ ap (λ (bs : List ℕ). packed xs ++ bs) (append-nil (littleEndian 2 (ofZ w16 x)))
+pub packed-snoc : (xs : List ℤ) (x : ℤ) → levelBytes (xs ++ (x ∷ [])) ≡ levelBytes xs ++ littleEndian 2 (ofZ w16 x)
+unfolding levelBytes
+packed-snoc xs x = packed-append xs (x ∷ []) ∙ ap (λ (bs : List ℕ). levelBytes xs ++ bs) (append-nil (littleEndian 2 (ofZ w16 x)))

@@ -18,11 +18,11 @@ value [] = 0
 value (b ∷ bs) = value bs * 256 + b
 
 -- levels in two bytes each, in two's complement
-unfoldable pub packed : List ℤ → List ℕ
-packed [] = []
-packed (x ∷ xs) = littleEndian 2 (ofZ w16 x) ++ packed xs
+unfoldable pub levelBytes : List ℤ → List ℕ
+levelBytes [] = []
+levelBytes (x ∷ xs) = littleEndian 2 (ofZ w16 x) ++ levelBytes xs
 
 -- the first n levels that bytes stand for
-unfoldable pub unpacked : ℕ → List ℕ → List ℤ
-unpacked zero bs = []
-unpacked (suc n) bs = toZ w16 (value (take 2 bs)) ∷ unpacked n (drop 2 bs)
+unfoldable pub levelsIn : ℕ → List ℕ → List ℤ
+levelsIn zero bs = []
+levelsIn (suc n) bs = toZ w16 (value (take 2 bs)) ∷ levelsIn n (drop 2 bs)

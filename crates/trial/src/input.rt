@@ -5,7 +5,7 @@ ghost use Prim.Native.Nat.{_*_, _^_, _≤_, _<_};
 ghost use lib.ListN.{length};
 ghost use mir.Syntax.{w16};
 ghost use mir.Val.{toZ};
-ghost use Rattle.trial.specs.Format.{value, unpacked};
+ghost use Rattle.trial.specs.Format.{value, levelsIn};
 use crate::parts;
 use crate::parts::PART;
 use libc::STDIN_FILENO;
@@ -141,7 +141,7 @@ fn read_part(levels: &mut [i16], bytes: &mut [u8]) -> bool
 // The levels that the first bytes stand for.
 fn unpack(bytes: &[u8], levels: &mut [i16])
     requires { ⌜ length (now levels) * 2 ≤ length (now bytes) ⌝ }
-    ensures { λ _. ⌜ now (levels .exit) ≡ unpacked (length (now (levels .entry))) (now (bytes .entry)) ⌝ }
+    ensures { λ _. ⌜ now (levels .exit) ≡ levelsIn (length (now (levels .entry))) (now (bytes .entry)) ⌝ }
 {
     let mut i: usize = 0;
     while i < levels.len() {

@@ -1,9 +1,7 @@
 // Jobs 3 and 4: send and receive Payload A.
-use crate::answer;
 use crate::input;
 use crate::input::Byte;
 use crate::output;
-use payload_a::ReceivedA;
 
 // Reads the fields of job 3, mode, frame, I and Q, and makes the call. False ends the program.
 pub(crate) fn serve_send(frame: &mut [u8], i: &mut [i16], q: &mut [i16]) -> bool {
@@ -45,17 +43,15 @@ pub(crate) fn serve_receive(i: &mut [i16], q: &mut [i16], area: &mut [u8]) -> bo
 
 // The call of job 3, and its response.
 fn send(mode: u8, frame: &[u8], i: &mut [i16], q: &mut [i16]) -> bool {
-    output::write_sent(sender_a::send_a(mode, frame, i, q), i, q)
+    let told = answers::of_written(sender_a::send_a(mode, frame, i, q));
+    output::write_sent(told, i, q)
 }
 
 // The call of job 4, and its response.
 fn receive(mode: u8, i: &[i16], q: &[i16], area: &mut [u8]) -> bool {
-    write_received(receiver_a::receive_a(mode, i, q, area)) && output::write_list(area)
-}
-
-// How the response to job 4 begins.
-fn write_received(answer: ReceivedA) -> bool {
-    output::write_answer(answer::number_a(answer), answer::place_a(answer))
-        && output::write_count(answer::mended_a(answer))
-        && output::write_count(answer::protected_a(answer))
+    let told = answers::of_received_a(receiver_a::receive_a(mode, i, q, area));
+    output::write_answer(told)
+        && output::write_count(told.mended)
+        && output::write_count(told.protected)
+        && output::write_list(area)
 }

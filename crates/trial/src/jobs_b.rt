@@ -1,9 +1,7 @@
 // Jobs 5 and 6: send and receive Payload B.
-use crate::answer;
 use crate::input;
 use crate::input::Byte;
 use crate::output;
-use payload_b::ReceivedB;
 
 // Reads the fields of job 5, mode, frame, scheme, I and Q, and makes the call. False ends the program.
 pub(crate) fn serve_send(
@@ -82,17 +80,12 @@ pub(crate) fn serve_receive(
 
 // The call of job 5, and its response.
 fn send(mode: u8, frame: &[u8], scheme: &[u8], i: &mut [i16], q: &mut [i16]) -> bool {
-    output::write_sent(sender_b::send_b(mode, frame, scheme, i, q), i, q)
+    let told = answers::of_written(sender_b::send_b(mode, frame, scheme, i, q));
+    output::write_sent(told, i, q)
 }
 
 // The call of job 6, and its response.
 fn receive(mode: u8, size: usize, scheme: &[u8], i: &[i16], q: &[i16], area: &mut [u8]) -> bool {
-    write_received(receiver_b::receive_b(mode, size, scheme, i, q, area))
-        && output::write_list(area)
-}
-
-// How the response to job 6 begins.
-fn write_received(answer: ReceivedB) -> bool {
-    output::write_answer(answer::number_b(answer), answer::place_b(answer))
-        && output::write_count(answer::mended_b(answer))
+    let told = answers::of_received_b(receiver_b::receive_b(mode, size, scheme, i, q, area));
+    output::write_answer(told) && output::write_count(told.mended) && output::write_list(area)
 }

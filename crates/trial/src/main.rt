@@ -19,7 +19,6 @@ ghost use mathlib.Core.Path.{_≡_};
 ghost use lib.ListN.{length};
 use input::Byte;
 
-mod answer;
 mod input;
 mod jobs_a;
 mod jobs_b;

@@ -5,16 +5,15 @@ ghost use Prim.Native.Nat.{_*_, _≤_};
 ghost use lib.ListN.{length};
 ghost use mir.Syntax.{w16};
 ghost use mir.Val.{ofZ};
-ghost use Rattle.trial.specs.Format.{littleEndian, packed};
-use crate::answer;
+ghost use Rattle.trial.specs.Format.{littleEndian, levelBytes};
 use crate::parts;
 use crate::parts::PART;
+use answers::Told;
 use libc::STDOUT_FILENO;
-use payload::Sent;
 
 // How every response begins.
-pub(crate) fn write_answer(number: u8, place: usize) -> bool {
-    let bytes = head(number, place);
+pub(crate) fn write_answer(told: Told) -> bool {
+    let bytes = head(told.number, told.place);
     io::write_all(STDOUT_FILENO, &bytes)
 }
 
@@ -37,10 +36,8 @@ fn write_levels(levels: &[i16]) -> bool {
 }
 
 // The response to job 3 or 5: I and Q follow the answer.
-pub(crate) fn write_sent(answer: Sent, i: &[i16], q: &[i16]) -> bool {
-    write_answer(answer::sent_number(answer), answer::sent_place(answer))
-        && write_levels(i)
-        && write_levels(q)
+pub(crate) fn write_sent(told: Told, i: &[i16], q: &[i16]) -> bool {
+    write_answer(told) && write_levels(i) && write_levels(q)
 }
 
 // The count of a list, in four bytes.
@@ -86,7 +83,7 @@ fn write_part(levels: &[i16], bytes: &mut [u8]) -> bool
 // The bytes of levels.
 fn pack(levels: &[i16], bytes: &mut [u8])
     requires { ⌜ length (now bytes) ≡ length (now levels) * 2 ⌝ }
-    ensures { λ _. ⌜ now (bytes .exit) ≡ packed (now (levels .entry)) ⌝ }
+    ensures { λ _. ⌜ now (bytes .exit) ≡ levelBytes (now (levels .entry)) ⌝ }
 {
     let mut i: usize = 0;
     while i < levels.len() {

@@ -1,25 +1,30 @@
--- `bridge::ortkaveq_decode` meets its contract: bch's promise, told.
+-- `bridge::ortkaveq_decode` meets its contract: the codes' promise, told.
 -- Assumes nothing.
+use mathlib.Core.Path.{ap, _∙_}
 use native.Mathlib.Omega.{arith}
-use Rattle.bridge.proofs.Counts.{few}
+use Rattle.bridge.specs.Calls.{answerOf, DecodeCall}
+use Rattle.bridge.proofs.Counts.{few-decoded}
 use borrow.Author.Needs.{needs}
 use Rattle.bridge.proofs.ortkaveq_decode.Statement.{statement}
 use Rattle.bridge.proofs.ortkaveq_decode.Tie as tie
 
-decode-requires : tie.Need-decode-requires
-decode-requires c κs = search needs
-
-of-decoded-requires : tie.Need-of-decoded-requires
-of-decoded-requires c κs =
-    let start = c .before .before .before .before .before .before in
-    let call = c .before .before .decode in
-    omega (arith, few (start .args .word .now) (start .args .out .now) (call .result) (call .last .1 .1 .0) (start .args .code) (call .ensures))
-
-same-length : tie.Need-same-length
-same-length c = search needs
+answer-of-requires : tie.Need-answer-of-requires
+answer-of-requires c κs =
+    let s = c .before .before .before .before .before .before .before .args in
+    let call = c .before .before .before .decode in
+    let few = few-decoded (s .word .now) (s .out .now) (call .result) (call .last .1 .1 .0) (s .code) (call .ensures) in
+    rw (c .of-decoded .ensures) (omega (arith, few .mended))
 
 returns : tie.Need-returns
-returns c = search needs
+returns c =
+    let s = c .before .before .before .before .before .before .before .before .args in
+    let call = c .before .before .before .before .decode in
+    let made : DecodeCall (s .code) (s .word .now) (s .out .now) (c .answer-of .result) (call .last .1 .1 .0) = record {
+      answer = call .result;
+      promise = call .ensures;
+      told = c .answer-of .ensures ∙ ap answerOf (c .before .of-decoded .ensures);
+    } in
+    made
 
 pub ortkaveq-decode-spec : {M : Type 1} → statement M
-ortkaveq-decode-spec = tie.close (tie.spec decode-requires of-decoded-requires same-length returns)
+ortkaveq-decode-spec = tie.close (tie.spec (λ c κs. search needs) (λ c κs. search needs) answer-of-requires (λ c. search needs) returns)

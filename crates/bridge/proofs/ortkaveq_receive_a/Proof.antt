@@ -1,27 +1,30 @@
--- `bridge::ortkaveq_receive_a` meets its contract: payload's promise, told.
+-- `bridge::ortkaveq_receive_a` meets its contract: the payload's promise, told.
 -- Assumes nothing.
+use mathlib.Core.Path.{ap, _∙_}
 use native.Mathlib.Omega.{arith}
-use Rattle.bridge.proofs.Counts.{few-received}
+use Rattle.bridge.specs.Calls.{answerAOf, ReceiveACall}
+use Rattle.bridge.proofs.Counts.{few-received-a}
 use borrow.Author.Needs.{needs}
 use Rattle.bridge.proofs.ortkaveq_receive_a.Statement.{statement}
 use Rattle.bridge.proofs.ortkaveq_receive_a.Tie as tie
 
-receive-a-requires : tie.Need-receive-a-requires
-receive-a-requires c κs = search needs
-
-of-received-a-requires : tie.Need-of-received-a-requires
-of-received-a-requires c κs =
-    let s = c .before .before .before .before .before in
-    let call = c .before .before .receive-a in
-    let few = few-received (s .args .area .now) (call .result) (call .last .1 .1 .1 .0) (s .args .mode) (s .args .i .now) (s .args .q .now) (call .ensures) in
-    (omega (arith, few .0), omega (arith, few .1))
-
-same-length : tie.Need-same-length
-same-length c = search needs
+answer-a-of-requires : tie.Need-answer-a-of-requires
+answer-a-of-requires c κs =
+    let s = c .before .before .before .before .before .before .args in
+    let call = c .before .before .before .receive-a in
+    let few = few-received-a (s .area .now) (call .result) (call .last .1 .1 .1 .0) (s .mode) (s .i .now) (s .q .now) (call .ensures) in
+    rw (c .of-received-a .ensures) (omega (arith, few .mended), omega (arith, few .protected))
 
 returns : tie.Need-returns
-returns c = search needs
+returns c =
+    let s = c .before .before .before .before .before .before .before .args in
+    let call = c .before .before .before .before .receive-a in
+    let made : ReceiveACall (s .mode) (s .i .now) (s .q .now) (s .area .now) (c .answer-a-of .result) (call .last .1 .1 .1 .0) = record {
+      answer = call .result;
+      promise = call .ensures;
+      told = c .answer-a-of .ensures ∙ ap answerAOf (c .before .of-received-a .ensures);
+    } in
+    made
 
 pub ortkaveq-receive-a-spec : {M : Type 1} → statement M
-ortkaveq-receive-a-spec =
-    tie.close (tie.spec receive-a-requires of-received-a-requires same-length returns)
+ortkaveq-receive-a-spec = tie.close (tie.spec (λ c κs. search needs) (λ c κs. search needs) answer-a-of-requires (λ c. search needs) returns)

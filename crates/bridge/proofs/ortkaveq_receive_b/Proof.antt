@@ -1,27 +1,31 @@
--- `bridge::ortkaveq_receive_b` meets its contract: payload's promise, told.
+-- `bridge::ortkaveq_receive_b` meets its contract: the payload's promise, told.
 -- Assumes nothing.
+use mathlib.Core.Path.{ap, _∙_}
 use native.Mathlib.Omega.{arith}
-use Rattle.bridge.proofs.Counts.{few-receivedB}
+use Rattle.bridge.specs.Calls.{answerOf, ReceiveBCall}
+use Rattle.bridge.proofs.Counts.{few-received-b}
 use borrow.Author.Needs.{needs}
 use Rattle.bridge.proofs.ortkaveq_receive_b.Statement.{statement}
 use Rattle.bridge.proofs.ortkaveq_receive_b.Tie as tie
 
-receive-b-requires : tie.Need-receive-b-requires
-receive-b-requires c κs = search needs
-
-of-received-b-requires : tie.Need-of-received-b-requires
-of-received-b-requires c κs =
-    let s = c .before .before .before .before .before .before in
-    let call = c .before .before .receive-b in
-    let few = few-receivedB (s .args .area .now) (call .result) (call .last .1 .1 .1 .1 .1 .0) in
-    omega (arith, few (s .args .mode) (s .args .size) (s .args .scheme .now) (s .args .i .now) (s .args .q .now) (call .ensures))
-
-same-length : tie.Need-same-length
-same-length c = search needs
+answer-of-requires : tie.Need-answer-of-requires
+answer-of-requires c κs =
+    let s = c .before .before .before .before .before .before .before .args in
+    let call = c .before .before .before .receive-b in
+    let few = few-received-b (s .area .now) (call .result) (call .last .1 .1 .1 .1 .1 .0) (s .mode) (s .size) (s .scheme .now) (s .i .now) (s .q .now)
+    (call .ensures) in
+    rw (c .of-received-b .ensures) (omega (arith, few .mended))
 
 returns : tie.Need-returns
-returns c = search needs
+returns c =
+    let s = c .before .before .before .before .before .before .before .before .args in
+    let call = c .before .before .before .before .receive-b in
+    let made : ReceiveBCall (s .mode) (s .size) (s .scheme .now) (s .i .now) (s .q .now) (s .area .now) (c .answer-of .result) (call .last .1 .1 .1 .1 .1 .0) = record {
+      answer = call .result;
+      promise = call .ensures;
+      told = c .answer-of .ensures ∙ ap answerOf (c .before .of-received-b .ensures);
+    } in
+    made
 
 pub ortkaveq-receive-b-spec : {M : Type 1} → statement M
-ortkaveq-receive-b-spec =
-    tie.close (tie.spec receive-b-requires of-received-b-requires same-length returns)
+ortkaveq-receive-b-spec = tie.close (tie.spec (λ c κs. search needs) (λ c κs. search needs) answer-of-requires (λ c. search needs) returns)

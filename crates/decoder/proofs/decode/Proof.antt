@@ -1,45 +1,36 @@
--- `decoder::decode` meets its contract: the checks begin with the code's number.
+-- `decoder::decode` meets its contract: the word is mended where the checks pass, and else nothing is done.
 -- Assumes nothing.
 use mathlib.Core.Path.{refl}
+use Rattle.answers.proofs.Telling.{because-is}
 use borrow.Author.Needs.{needs}
 use Rattle.decoder.proofs.decode.Statement.{statement}
 use Rattle.decoder.proofs.decode.Tie as tie
 
-numbered-requires : tie.Need-numbered-requires
-numbered-requires c κs = search needs
-
-enum-known-named : tie.Need-enum-known-named
-enum-known-named c = search needs
-
-checked-requires : tie.Need-checked-requires
-checked-requires c κs =
-    let held = rw (c .before .before .named .given .1) at (c .before .before .before .before .numbered .ensures) in
-    held .0
-
-enum-told : tie.Need-enum-told
-enum-told c = search needs
-
-same-length : tie.Need-same-length
-same-length c = search needs
+answer-requires : tie.Need-answer-requires
+answer-requires c κs =
+    let fit = rw (c .before .before .verdict2 .given .1) at (c .before .before .before .before .judged .ensures) in
+    fit .0
 
 returns : tie.Need-returns
 returns c =
-    let held = rw (c .before .before .before .before .before .named .given .1) at (c .before .before .before .before .before .before .before .numbered .ensures) in
-    rw (held .1) (c .before .before .checked .ensures)
+    let failed = rw (c .before .verdict .given .1) at (c .before .before .before .judged .ensures) in
+    rw failed (because-is (c .before .verdict .given .0 .0), refl)
 
 returns-2 : tie.Need-returns-2
 returns-2 c =
-    let none = rw (c .enum-told .given .1) at (c .before .before .numbered .ensures) in
-    rw none (refl, refl, refl, refl)
+    let q = c .before .before .before .before .before in
+    let fit = rw (q .verdict2 .given .1) at (q .before .before .judged .ensures) in
+    rw (fit .1) (c .before .before .answer .ensures)
 
 pub decode-spec : {M : Type 1} → statement M
 decode-spec =
     tie.close
     (tie.spec
-    numbered-requires
-    enum-known-named
-    checked-requires
-    enum-told
-    same-length
+    (λ c κs. search needs)
+    (λ c. search needs)
+    (λ c. search needs)
+    answer-requires
+    (λ c. search needs)
     returns
+    (λ c. search needs)
     returns-2)

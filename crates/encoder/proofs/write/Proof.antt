@@ -6,38 +6,17 @@ use Prim.Native.Nat.{ℕ, _-_, _≤_}
 use native.Mathlib.Omega.{arith}
 use borrow.Rule.Slice.PartMut.{putMid}
 use lib.ListN.{length, take, drop}
-use Rattle.bch.specs.Words.{digits}
-use Rattle.bch.specs.Remainders.{remainder}
+use Rattle.bits.specs.Words.{digits}
+use Rattle.bits.specs.Remainders.{remainder}
 use Rattle.bch.specs.Codes.{encoded}
 use Rattle.bch.specs.Registers.{tops, whole}
 use Rattle.bch.specs.Held.{codeOf}
-use Rattle.bch.proofs.Digits.{lowest-same}
+use Rattle.bits.proofs.Digits.{lowest-same}
 use Rattle.bch.proofs.Sounds.{tops-remainder}
-use Rattle.bch.proofs.Parts.{copied, second-long, both-written}
+use Rattle.bits.proofs.Parts.{copied, second-long, both-written}
 use borrow.Author.Needs.{needs}
 use Rattle.encoder.proofs.write.Statement.{statement}
 use Rattle.encoder.proofs.write.Tie as tie
-
-copy-requires : tie.Need-copy-requires
-copy-requires c κs = search needs
-
-remainder-requires : tie.Need-remainder-requires
-remainder-requires c κs = search needs
-
-sub-put : tie.Need-sub-put
-sub-put c = search needs
-
-part-put-start : tie.Need-part-put-start
-part-put-start c = search needs
-
-part-put-end : tie.Need-part-put-end
-part-put-end c = search needs
-
-put-requires : tie.Need-put-requires
-put-requires c κs = search needs
-
-same-length : tie.Need-same-length
-same-length c = search needs
 
 returns : tie.Need-returns
 unfolding encoded
@@ -51,7 +30,8 @@ returns c =
     let first : copy .last .1 .0 ≡ m ++ drop (h .k) out = copy .ensures .1 ∙ copied m out (h .k) (start .pre .long) in
     let put : c .before .before .put .last .1 .0 ≡ digits (h .n - h .k) (remainder (h .n - h .k) (codeOf h .generator) m)
     = c .before .before .put .ensures
-    ∙ ap₂ tops (ap (λ (l : List ℕ). length (take (h .n - h .k) (drop (h .k) l))) first ∙ second-long out m (h .k) (h .n) (start .pre .long) low (start .pre .room))
+    ∙ ap₂ tops
+    (ap (λ (l : List ℕ). length (take (h .n - h .k) (drop (h .k) l))) first ∙ second-long out m (h .k) (h .n) (start .pre .long) low (start .pre .room))
     (c .before .before .before .before .remainder .ensures ∙ ap (remainder 192 (whole (h .generator))) (lowest-same m (start .pre .bits)))
     ∙ tops-remainder (start .pre .sound) m in
     ap₂ (putMid (h .k) (h .n - h .k)) first put ∙ both-written out m (h .k) (h .n) (start .pre .long) low _
@@ -60,11 +40,11 @@ pub write-spec : {M : Type 1} → statement M
 write-spec =
     tie.close
     (tie.spec
-    copy-requires
-    remainder-requires
-    sub-put
-    part-put-start
-    part-put-end
-    put-requires
-    same-length
+    (λ c κs. search needs)
+    (λ c κs. search needs)
+    (λ c. search needs)
+    (λ c. search needs)
+    (λ c. search needs)
+    (λ c κs. search needs)
+    (λ c. search needs)
     returns)

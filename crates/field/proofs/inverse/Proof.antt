@@ -17,20 +17,8 @@ logged c =
     c .logarithm .ensures .0
     ∙ ap (λ (l : List ℕ). getD l (element (c .before .before .before .args .x)) 0) (c .before .before .log-table .ensures)
 
-log-table-requires : tie.Need-log-table-requires
-log-table-requires c κs = search needs
-
-logarithm-requires : tie.Need-logarithm-requires
-logarithm-requires c κs = search needs
-
 returns : tie.Need-returns
 returns c = sym (inverse-none (c .before .before .before .before .args .x) (rw (logged (c .before)) at (c .if1 .taken)))
-
-power-table-requires : tie.Need-power-table-requires
-power-table-requires c κs = search needs
-
-power-at-requires : tie.Need-power-at-requires
-power-at-requires c κs = search needs
 
 returns-2 : tie.Need-returns-2
 returns-2 c =
@@ -43,9 +31,9 @@ pub inverse-spec : {M : Type 1} → statement M
 inverse-spec =
     tie.close
     (tie.spec
-    log-table-requires
-    logarithm-requires
+    (λ c κs. search needs)
+    (λ c κs. search needs)
     returns
-    power-table-requires
-    power-at-requires
+    (λ c κs. search needs)
+    (λ c κs. search needs)
     returns-2)

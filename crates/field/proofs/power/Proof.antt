@@ -10,12 +10,6 @@ use borrow.Author.Needs.{needs}
 use Rattle.field.proofs.power.Statement.{statement}
 use Rattle.field.proofs.power.Tie as tie
 
-power-table-requires : tie.Need-power-table-requires
-power-table-requires c κs = search needs
-
-power-at-requires : tie.Need-power-at-requires
-power-at-requires c κs = search needs
-
 returns : tie.Need-returns
 returns c =
     let i = c .before .before .before .args .i in
@@ -25,4 +19,4 @@ returns c =
     ∙ power-table-at (i % 511) (omega arith) ∙ power-mod i
 
 pub power-spec : {M : Type 1} → statement M
-power-spec = tie.close (tie.spec power-table-requires power-at-requires returns)
+power-spec = tie.close (tie.spec (λ c κs. search needs) (λ c κs. search needs) returns)

@@ -7,17 +7,8 @@ use borrow.Author.Needs.{needs}
 use Rattle.field.proofs.power_at.Statement.{statement}
 use Rattle.field.proofs.power_at.Tie as tie
 
-least-requires : tie.Need-least-requires
-least-requires c κs = search needs
-
-mul-result : tie.Need-mul-result
-mul-result c = search needs
-
-element-copy-out-result : tie.Need-element-copy-out-result
-element-copy-out-result c = search needs
-
 returns : tie.Need-returns
 returns c = ap (λ (i : ℕ). getD (c .before .before .args .powers .now) i 0) (c .before .least .ensures .0)
 
 pub power-at-spec : {M : Type 1} → statement M
-power-at-spec = tie.close (tie.spec least-requires mul-result element-copy-out-result returns)
+power-at-spec = tie.close (tie.spec (λ c κs. search needs) (λ c. search needs) (λ c. search needs) returns)

@@ -9,15 +9,6 @@ use borrow.Author.Needs.{needs}
 use Rattle.field.proofs.product.Statement.{statement}
 use Rattle.field.proofs.product.Tie as tie
 
-log-table-requires : tie.Need-log-table-requires
-log-table-requires c κs = search needs
-
-power-table-requires : tie.Need-power-table-requires
-power-table-requires c κs = search needs
-
-product-from-requires : tie.Need-product-from-requires
-product-from-requires c κs = search needs
-
 returns : tie.Need-returns
 returns c =
     let x = c .before .before .before .before .before .args .x in
@@ -28,4 +19,4 @@ returns c =
 
 pub product-spec : {M : Type 1} → statement M
 product-spec =
-    tie.close (tie.spec log-table-requires power-table-requires product-from-requires returns)
+    tie.close (tie.spec (λ c κs. search needs) (λ c κs. search needs) (λ c κs. search needs) returns)

@@ -8,18 +8,6 @@ use borrow.Author.Needs.{needs}
 use Rattle.field.proofs.product_from.Statement.{statement}
 use Rattle.field.proofs.product_from.Tie as tie
 
-logarithm-requires : tie.Need-logarithm-requires
-logarithm-requires c κs = search needs
-
-logarithm-requires-2 : tie.Need-logarithm-requires-2
-logarithm-requires-2 c κs = search needs
-
-add-power-at : tie.Need-add-power-at
-add-power-at c = search needs
-
-power-at-requires : tie.Need-power-at-requires
-power-at-requires c κs = search needs
-
 returns : tie.Need-returns
 unfolding productFrom
 returns c =
@@ -30,4 +18,4 @@ returns c =
 pub product-from-spec : {M : Type 1} → statement M
 product-from-spec =
     tie.close
-    (tie.spec logarithm-requires logarithm-requires-2 add-power-at power-at-requires returns)
+    (tie.spec (λ c κs. search needs) (λ c κs. search needs) (λ c. search needs) (λ c κs. search needs) returns)

@@ -33,15 +33,9 @@ cast-result c = rw (size c) (tt, omega (arith, c .before .fits .v .sfits))
 sub-result-2 : tie.Need-sub-result-2
 sub-result-2 c = rw (size c) (omega (arith, c .before .fits .v .sfits))
 
-returns : tie.Need-returns
-returns c = search needs
-
 cast-result-2 : tie.Need-cast-result-2
 cast-result-2 c = rw (kept c) (tt, omega (arith, c .before .fits .v .sfits))
 
-returns-2 : tie.Need-returns-2
-returns-2 c = search needs
-
 pub complement-spec : {M : Type 1} → statement M
 complement-spec =
-    tie.close (tie.spec sub-result cast-result sub-result-2 returns cast-result-2 returns-2)
+    tie.close (tie.spec sub-result cast-result sub-result-2 (λ c. search needs) cast-result-2 (λ c. search needs))

@@ -20,28 +20,10 @@ negated c =
 negated-fits : (c : tie.Then1) → SFits w16 (negsuc (39 - c .before .args .place))
 negated-fits c = record { sfits = omega arith }
 
-sub-result : tie.Need-sub-result
-sub-result c = search needs
-
-cast-result : tie.Need-cast-result
-cast-result c = search needs
-
 sub-result-2 : tie.Need-sub-result-2
 sub-result-2 c = rw (negated c) (negated-fits c)
-
-returns : tie.Need-returns
-returns c = search needs
-
-cast-result-2 : tie.Need-cast-result-2
-cast-result-2 c = search needs
-
-returns-2 : tie.Need-returns-2
-returns-2 c = search needs
-
-returns-3 : tie.Need-returns-3
-returns-3 c = search needs
 
 pub level-spec : {M : Type 1} → statement M
 level-spec =
     tie.close
-    (tie.spec sub-result cast-result sub-result-2 returns cast-result-2 returns-2 returns-3)
+    (tie.spec (λ c. search needs) (λ c. search needs) sub-result-2 (λ c. search needs) (λ c. search needs) (λ c. search needs) (λ c. search needs))

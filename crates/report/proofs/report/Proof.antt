@@ -11,14 +11,8 @@ use borrow.Author.Needs.{needs}
 use Rattle.report.proofs.report.Statement.{statement}
 use Rattle.report.proofs.report.Tie as tie
 
-mode-for-requires : tie.Need-mode-for-requires
-mode-for-requires c κs = search needs
-
 trip-requires : tie.Need-trip-requires
 trip-requires c κs = rw (c .mode-for .ensures) (mode-known (length (c .before .before .args .frame .now)))
-
-answered-requires : tie.Need-answered-requires
-answered-requires c κs = search needs
 
 -- the text, letter for letter
 text : (c : tie.After-answered) → c .answered .result ≡ textOf (linesOf (length (c .before .before .before .before .args .frame .now)))
@@ -35,4 +29,4 @@ returns c =
     (text c, rw (text c) (counted-text (linesOf n) (lines-short n)))
 
 pub report-spec : {M : Type 1} → statement M
-report-spec = tie.close (tie.spec mode-for-requires trip-requires answered-requires returns)
+report-spec = tie.close (tie.spec (λ c κs. search needs) trip-requires (λ c κs. search needs) returns)

@@ -1,4 +1,4 @@
--- `bch::register::fours` meets its contract: each remainder by that of half the number.
+-- `bch::register::fours` meets its contract: each remainder by that of half the contents.
 -- Assumes nothing.
 use mathlib.Core.Path.{_≡_, refl, sym}
 use mathlib.Core.List.{List}
@@ -8,9 +8,9 @@ use native.Mathlib.Decide.{ℕ-discrete}
 use lib.ListN.{length, getD, set, replicate, length-set}
 use lib.Seq.{getD-set-same, getD-set-other}
 use Rattle.bch.specs.declared.register.Register.{Register}
-use Rattle.bch.specs.Words.{digits}
-use Rattle.bch.specs.Registers.{number, whole, Fours}
-use Rattle.bch.specs.Remainders.{step, remainder}
+use Rattle.bits.specs.Words.{digits}
+use Rattle.bch.specs.Registers.{contents, whole, Fours}
+use Rattle.bits.specs.Remainders.{step, remainder}
 use Rattle.bch.proofs.Nibbles.{remainder-0, remainder-half}
 use borrow.Author.Needs.{needs}
 use Rattle.bch.proofs.register.fours.Statement.{statement}
@@ -18,10 +18,10 @@ use Rattle.bch.proofs.register.fours.Tie as tie
 
 -- a turn: q is the remainder for i
 turn : (g : ℕ) (table : List Register) (i : ℕ) (q d : Register) → 0 < i → i < 16 → i < length table → Fours g i table
-    → number q ≡ step 192 g (number (getD table (i / 2) d)) (i % 2) → Fours g (i + 1) (set table i q)
+    → contents q ≡ step 192 g (contents (getD table (i / 2) d)) (i % 2) → Fours g (i + 1) (set table i q)
 turn g table i q d pos h l filled e k d' hk = by (ℕ-discrete k i)
   where
-    by : Dec (k ≡ i) → number (getD (set table i q) k d') ≡ remainder 192 g (digits 4 k)
+    by : Dec (k ≡ i) → contents (getD (set table i q) k d') ≡ remainder 192 g (digits 4 k)
     by (no ne) = rw (getD-set-other table i k q d' ne) (filled k d' (omega arith))
     by (yes same) =
         rw (same, getD-set-same table i q d' l, e, filled (i / 2) d (omega arith)) (sym (remainder-half 192 g 3 i h))
@@ -39,30 +39,6 @@ abbrev μ-loop : tie.MeasureT-loop
 
 loop-holds : tie.Need-loop-holds Inv-loop μ-loop
 loop-holds c = (omega arith, omega arith, refl, first (whole (c .args .g)))
-
-mul-step : tie.Need-mul-step Inv-loop μ-loop
-mul-step c = search needs
-
-array-copy-out-step : tie.Need-array-copy-out-step Inv-loop μ-loop
-array-copy-out-step c = search needs
-
-cast-step : tie.Need-cast-step Inv-loop μ-loop
-cast-step c = search needs
-
-step-requires : tie.Need-step-requires Inv-loop μ-loop
-step-requires c κs = search needs
-
-mul-table : tie.Need-mul-table Inv-loop μ-loop
-mul-table c = search needs
-
-array-set-from-table : tie.Need-array-set-from-table Inv-loop μ-loop
-array-set-from-table c = search needs
-
-add-i : tie.Need-add-i Inv-loop μ-loop
-add-i c = search needs
-
-loop-less : tie.Need-loop-less Inv-loop μ-loop
-loop-less c = search needs
 
 loop-again : tie.Need-loop-again Inv-loop μ-loop
 loop-again c =
@@ -86,13 +62,13 @@ fours-spec =
     Inv-loop
     μ-loop
     loop-holds
-    mul-step
-    array-copy-out-step
-    cast-step
-    step-requires
-    mul-table
-    array-set-from-table
-    add-i
-    loop-less
+    (λ c. search needs)
+    (λ c. search needs)
+    (λ c. search needs)
+    (λ c κs. search needs)
+    (λ c. search needs)
+    (λ c. search needs)
+    (λ c. search needs)
+    (λ c. search needs)
     loop-again
     returns)

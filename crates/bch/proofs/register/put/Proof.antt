@@ -8,7 +8,7 @@ use native.Mathlib.Nat.{sub-zero}
 use native.Mathlib.Numerals.{add-one}
 use lib.ListN.{length, set, take, length-set}
 use lib.Seq.{take-all, take-suc-set}
-use Rattle.bch.specs.Registers.{number, tops}
+use Rattle.bch.specs.Registers.{contents, tops}
 use borrow.Author.Needs.{needs}
 use Rattle.bch.proofs.register.put.Statement.{statement}
 use Rattle.bch.proofs.register.put.Tie as tie
@@ -30,7 +30,7 @@ done out n i x l h =
 abbrev Inv-loop : tie.InvT-loop
 Inv-loop out₀ rest₀ i₀ out rest i =
     (i ≤ length out₀) × (length out ≡ length out₀)
-    × (take i out ++ tops (length out₀ - i) (number rest) ≡ tops (length out₀) (number rest₀))
+    × (take i out ++ tops (length out₀ - i) (contents rest) ≡ tops (length out₀) (contents rest₀))
 
 abbrev μ-loop : tie.MeasureT-loop
 μ-loop out₀ rest₀ i₀ out rest i = length out₀ - i
@@ -38,31 +38,13 @@ abbrev μ-loop : tie.MeasureT-loop
 loop-holds : tie.Need-loop-holds Inv-loop μ-loop
 loop-holds c =
     let s = c .before .args in
-    (omega arith, refl, ap (λ (n : ℕ). tops n (number (s .r))) (sub-zero (length (s .out .now))))
-
-top-requires : tie.Need-top-requires Inv-loop μ-loop
-top-requires c κs = search needs
-
-cast-out : tie.Need-cast-out Inv-loop μ-loop
-cast-out c = search needs
-
-slice-write-out : tie.Need-slice-write-out Inv-loop μ-loop
-slice-write-out c = search needs
-
-up-requires : tie.Need-up-requires Inv-loop μ-loop
-up-requires c κs = search needs
-
-add-i : tie.Need-add-i Inv-loop μ-loop
-add-i c = search needs
-
-loop-less : tie.Need-loop-less Inv-loop μ-loop
-loop-less c = search needs
+    (omega arith, refl, ap (λ (n : ℕ). tops n (contents (s .r))) (sub-zero (length (s .out .now))))
 
 loop-again : tie.Need-loop-again Inv-loop μ-loop
 loop-again c =
     let l = c .before .before .before .loop in
     let n = length (c .before .before .before .before .before .args .out .now) in
-    let e = turn (l .out) n (l .i) (number (l .rest)) _ _ (omega arith) (omega arith) (c .before .top .ensures .0) (c .up .ensures) in
+    let e = turn (l .out) n (l .i) (contents (l .rest)) _ _ (omega arith) (omega arith) (c .before .top .ensures .0) (c .up .ensures) in
     (omega arith, simp length-set (l .inv .1), e ∙ l .inv .2)
 
 same-length : tie.Need-same-length Inv-loop μ-loop
@@ -71,7 +53,7 @@ same-length c = omega arith
 returns : tie.Need-returns Inv-loop μ-loop
 returns c =
     let l = c .before .loop in
-    done (l .out) _ (l .i) (number (l .rest)) (omega arith) (omega arith) ∙ l .inv .2
+    done (l .out) _ (l .i) (contents (l .rest)) (omega arith) (omega arith) ∙ l .inv .2
 
 pub put-spec : {M : Type 1} → statement M
 put-spec =
@@ -80,12 +62,12 @@ put-spec =
     Inv-loop
     μ-loop
     loop-holds
-    top-requires
-    cast-out
-    slice-write-out
-    up-requires
-    add-i
-    loop-less
+    (λ c κs. search needs)
+    (λ c. search needs)
+    (λ c. search needs)
+    (λ c κs. search needs)
+    (λ c. search needs)
+    (λ c. search needs)
     loop-again
     same-length
     returns)

@@ -7,11 +7,11 @@ use native.Mathlib.Omega.{arith}
 use native.Mathlib.Numerals.{add-one}
 use lib.ListN.{length, getD, drop, drop-of-length-le}
 use lib.Seq.{drop-cons}
-use Rattle.bch.specs.Words.{lowest, digits}
-use Rattle.bch.specs.Registers.{number, whole}
-use Rattle.bch.specs.Remainders.{step, remainder, remainderFrom}
-use Rattle.bch.proofs.Digits.{length-lowest, lowest-at}
-use Rattle.bch.proofs.Remainders.{from-append}
+use Rattle.bits.specs.Words.{lowest, digits}
+use Rattle.bch.specs.Registers.{contents, whole}
+use Rattle.bits.specs.Remainders.{step, remainder, remainderFrom}
+use Rattle.bits.proofs.Digits.{length-lowest, lowest-at}
+use Rattle.bits.proofs.Remainders.{from-append}
 use borrow.Author.Needs.{needs}
 use Rattle.bch.proofs.register.remainder.Statement.{statement}
 use Rattle.bch.proofs.register.remainder.Tie as tie
@@ -36,47 +36,20 @@ abbrev Taken : ℕ → List ℕ → ℕ → ℕ → Type 0
 Taken g w x i = (i ≤ length w) × (remainderFrom 192 g x (drop i (lowest w)) ≡ remainder 192 g (lowest w))
 
 abbrev Inv-loop : tie.InvT-loop
-Inv-loop g word table r₀ i₀ r i = Taken (whole g) word (number r) i
+Inv-loop g word table r₀ i₀ r i = Taken (whole g) word (contents r) i
 
 abbrev μ-loop : tie.MeasureT-loop
 μ-loop g word table r₀ i₀ r i = length word - i
 
 abbrev Inv-loop2 : tie.InvT-loop2
-Inv-loop2 g word r₀ i₀ r i = Taken (whole g) word (number r) i
+Inv-loop2 g word r₀ i₀ r i = Taken (whole g) word (contents r) i
 
 abbrev μ-loop2 : tie.MeasureT-loop2
 μ-loop2 g word r₀ i₀ r i = length word - i
 
-fours-requires : tie.Need-fours-requires Inv-loop μ-loop Inv-loop2 μ-loop2
-fours-requires c κs = search needs
-
 loop-holds : tie.Need-loop-holds Inv-loop μ-loop Inv-loop2 μ-loop2
 unfolding remainder
 loop-holds c = (omega arith, refl)
-
-add-loop : tie.Need-add-loop Inv-loop μ-loop Inv-loop2 μ-loop2
-add-loop c = search needs
-
-four-requires : tie.Need-four-requires Inv-loop μ-loop Inv-loop2 μ-loop2
-four-requires c κs = search needs
-
-slot-requires : tie.Need-slot-requires Inv-loop μ-loop Inv-loop2 μ-loop2
-slot-requires c κs = search needs
-
-mul-step4 : tie.Need-mul-step4 Inv-loop μ-loop Inv-loop2 μ-loop2
-mul-step4 c = search needs
-
-array-copy-out-step4 : tie.Need-array-copy-out-step4 Inv-loop μ-loop Inv-loop2 μ-loop2
-array-copy-out-step4 c = search needs
-
-step4-requires : tie.Need-step4-requires Inv-loop μ-loop Inv-loop2 μ-loop2
-step4-requires c κs = search needs
-
-add-i : tie.Need-add-i Inv-loop μ-loop Inv-loop2 μ-loop2
-add-i c = search needs
-
-loop-less : tie.Need-loop-less Inv-loop μ-loop Inv-loop2 μ-loop2
-loop-less c = search needs
 
 loop-again : tie.Need-loop-again Inv-loop μ-loop Inv-loop2 μ-loop2
 loop-again c =
@@ -85,36 +58,24 @@ loop-again c =
     let s = f .before .before .args in
     let slot = c .before .before .slot .ensures in (
       omega arith,
-      turn4 (whole (s .g)) (number (l .r)) _ _ (lowest (s .word .now)) (l .i) (c .before .before .before .four .ensures .1)
+      turn4 (whole (s .g)) (contents (l .r)) _ _ (lowest (s .word .now)) (l .i) (c .before .before .before .four .ensures .1)
           (c .step4 .ensures _ _ (f .fours .ensures _ _ (slot .1) ∙ ap (λ (k : ℕ). remainder 192 (whole (s .g)) (digits 4 k)) (slot .0))) ∙ l .inv .1,
     )
 
 loop2-holds : tie.Need-loop2-holds Inv-loop μ-loop Inv-loop2 μ-loop2
 loop2-holds c = c .before .loop .inv
 
-shared-slice-read-step : tie.Need-shared-slice-read-step Inv-loop μ-loop Inv-loop2 μ-loop2
-shared-slice-read-step c = search needs
-
-step-requires : tie.Need-step-requires Inv-loop μ-loop Inv-loop2 μ-loop2
-step-requires c κs = search needs
-
-add-i-2 : tie.Need-add-i-2 Inv-loop μ-loop Inv-loop2 μ-loop2
-add-i-2 c = search needs
-
-loop2-less : tie.Need-loop2-less Inv-loop μ-loop Inv-loop2 μ-loop2
-loop2-less c = search needs
-
 loop2-again : tie.Need-loop2-again Inv-loop μ-loop Inv-loop2 μ-loop2
 loop2-again c =
     let l = c .before .before .before .loop2 in
     let s = c .before .before .before .before .before .before .before .before .args in
-    (omega arith, turn (whole (s .g)) (number (l .r)) _ (s .word .now) (l .i) (omega arith) (c .step .ensures) ∙ l .inv .1)
+    (omega arith, turn (whole (s .g)) (contents (l .r)) _ (s .word .now) (l .i) (omega arith) (c .step .ensures) ∙ l .inv .1)
 
 returns : tie.Need-returns Inv-loop μ-loop Inv-loop2 μ-loop2
 returns c =
     let l = c .before .loop2 in
     let s = c .before .before .before .before .before .before .args in
-    done (whole (s .g)) (number (l .r)) (lowest (s .word .now)) (l .i) (omega (arith, length-lowest (s .word .now))) ∙ l .inv .1
+    done (whole (s .g)) (contents (l .r)) (lowest (s .word .now)) (l .i) (omega (arith, length-lowest (s .word .now))) ∙ l .inv .1
 
 pub remainder-spec : {M : Type 1} → statement M
 remainder-spec =
@@ -124,21 +85,21 @@ remainder-spec =
     μ-loop
     Inv-loop2
     μ-loop2
-    fours-requires
+    (λ c κs. search needs)
     loop-holds
-    add-loop
-    four-requires
-    slot-requires
-    mul-step4
-    array-copy-out-step4
-    step4-requires
-    add-i
-    loop-less
+    (λ c. search needs)
+    (λ c κs. search needs)
+    (λ c κs. search needs)
+    (λ c. search needs)
+    (λ c. search needs)
+    (λ c κs. search needs)
+    (λ c. search needs)
+    (λ c. search needs)
     loop-again
     loop2-holds
-    shared-slice-read-step
-    step-requires
-    add-i-2
-    loop2-less
+    (λ c. search needs)
+    (λ c κs. search needs)
+    (λ c. search needs)
+    (λ c. search needs)
     loop2-again
     returns)

@@ -4,38 +4,29 @@ use mathlib.Core.Path.{_≡_, sym, ap, _∙_}
 use Prim.Native.Nat.{ℕ, _*_, _/_, _^_, _<_}
 use native.Mathlib.Omega.{arith}
 use lib.Bits.{bitXor}
-use Rattle.bch.specs.Registers.{number, whole}
+use Rattle.bch.specs.Registers.{contents, whole}
 use borrow.Author.Needs.{needs}
 use Rattle.bch.proofs.Triples.{joined-lt}
-use Rattle.bch.proofs.Remainders.{halved, step-same, step-other}
+use Rattle.bits.proofs.Remainders.{halved, step-same, step-other}
 use Rattle.bch.proofs.register.step.Statement.{statement}
 use Rattle.bch.proofs.register.step.Tie as tie
-
-up-requires : tie.Need-up-requires
-up-requires c κs = search needs
-
-top-requires : tie.Need-top-requires
-top-requires c κs = search needs
-
-xor-requires : tie.Need-xor-requires
-xor-requires c κs = search needs
 
 returns : tie.Need-returns
 returns c =
     let s = c .before .before .before .args in
     c .before .before .up .ensures
-    ∙ sym (step-same 192 (number (s .r)) (s .b) (whole (s .g)) (halved 191 (number (s .r)) ∙ sym (c .before .top .ensures .0) ∙ c .if1 .taken))
+    ∙ sym (step-same 192 (contents (s .r)) (s .b) (whole (s .g)) (halved 191 (contents (s .r)) ∙ sym (c .before .top .ensures .0) ∙ c .if1 .taken))
 
 returns-2 : tie.Need-returns-2
 returns-2 c =
     let s = c .before .before .before .before .args in
-    let t : number (s .r) * 2 / 2 ^ 192 ≡ c .before .before .top .result
-    = halved 191 (number (s .r)) ∙ sym (c .before .before .top .ensures .0) in
-    let g : number (s .g) < 2 ^ 192 = joined-lt {W = 2 ^ 64} (omega arith) (omega arith) (omega arith) in
+    let t : contents (s .r) * 2 / 2 ^ 192 ≡ c .before .before .top .result
+    = halved 191 (contents (s .r)) ∙ sym (c .before .before .top .ensures .0) in
+    let g : contents (s .g) < 2 ^ 192 = joined-lt {W = 2 ^ 64} (omega arith) (omega arith) (omega arith) in
     c .xor .ensures
-    ∙ ap (λ (n : ℕ). bitXor n (number (s .g))) (c .before .before .before .up .ensures)
-    ∙ sym (step-other 192 (number (s .r)) (s .b) (number (s .g)) g (c .before .before .before .before .pre)
+    ∙ ap (λ (n : ℕ). bitXor n (contents (s .g))) (c .before .before .before .up .ensures)
+    ∙ sym (step-other 192 (contents (s .r)) (s .b) (contents (s .g)) g (c .before .before .before .before .pre)
     (rw t (c .before .before .top .ensures .1)) (λ e. c .before .if1 .left (sym t ∙ e)))
 
 pub step-spec : {M : Type 1} → statement M
-step-spec = tie.close (tie.spec up-requires top-requires xor-requires returns returns-2)
+step-spec = tie.close (tie.spec (λ c κs. search needs) (λ c κs. search needs) (λ c κs. search needs) returns returns-2)

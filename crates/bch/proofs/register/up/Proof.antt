@@ -8,24 +8,15 @@ use Rattle.bch.proofs.Triples.{raised-lt, joined-up}
 use Rattle.bch.proofs.register.up.Statement.{statement}
 use Rattle.bch.proofs.register.up.Tie as tie
 
-mul-t3 : tie.Need-mul-t3
-mul-t3 c = search needs
-
 add-t5 : tie.Need-add-t5
 add-t5 c =
     let r = c .before .before .args .r in
     record { fits = raised-lt (2 ^ 63) 2 (lit< tt) (lit< tt) (r .high) (r .mid) (omega arith) }
 
-mul-t7 : tie.Need-mul-t7
-mul-t7 c = search needs
-
 add-t9 : tie.Need-add-t9
 add-t9 c =
     let r = c .before .before .before .before .args .r in
     record { fits = raised-lt (2 ^ 63) 2 (lit< tt) (lit< tt) (r .mid) (r .low) (omega arith) }
-
-mul-t11 : tie.Need-mul-t11
-mul-t11 c = search needs
 
 returns : tie.Need-returns
 returns c =
@@ -33,4 +24,4 @@ returns c =
     joined-up (2 ^ 63) 2 (lit< tt) (lit< tt) (r .high) (r .mid) (r .low) (omega arith) (omega arith)
 
 pub up-spec : {M : Type 1} → statement M
-up-spec = tie.close (tie.spec mul-t3 add-t5 mul-t7 add-t9 mul-t11 returns)
+up-spec = tie.close (tie.spec (λ c. search needs) add-t5 (λ c. search needs) add-t9 (λ c. search needs) returns)

@@ -18,27 +18,6 @@ abbrev μ-loop : tie.MeasureT-loop
 loop-holds : tie.Need-loop-holds Inv-loop μ-loop
 loop-holds c = (search needs, summed-none)
 
-mul-product-from : tie.Need-mul-product-from Inv-loop μ-loop
-mul-product-from c = search needs
-
-element-copy-out-product-from : tie.Need-element-copy-out-product-from Inv-loop μ-loop
-element-copy-out-product-from c = search needs
-
-mul-product-from-2 : tie.Need-mul-product-from-2 Inv-loop μ-loop
-mul-product-from-2 c = search needs
-
-element-copy-out-product-from-2 : tie.Need-element-copy-out-product-from-2 Inv-loop μ-loop
-element-copy-out-product-from-2 c = search needs
-
-product-from-requires : tie.Need-product-from-requires Inv-loop μ-loop
-product-from-requires c κs = search needs
-
-add-j : tie.Need-add-j Inv-loop μ-loop
-add-j c = search needs
-
-loop-less : tie.Need-loop-less Inv-loop μ-loop
-loop-less c = search needs
-
 loop-again : tie.Need-loop-again Inv-loop μ-loop
 loop-again c =
     let l = c .before .before .before .before .loop in
@@ -58,12 +37,12 @@ discrepancy-spec =
     Inv-loop
     μ-loop
     loop-holds
-    mul-product-from
-    element-copy-out-product-from
-    mul-product-from-2
-    element-copy-out-product-from-2
-    product-from-requires
-    add-j
-    loop-less
+    (λ c. search needs)
+    (λ c. search needs)
+    (λ c. search needs)
+    (λ c. search needs)
+    (λ c κs. search needs)
+    (λ c. search needs)
+    (λ c. search needs)
     loop-again
     returns)

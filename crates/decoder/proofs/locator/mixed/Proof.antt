@@ -16,36 +16,6 @@ abbrev μ-loop : tie.MeasureT-loop
 loop-holds : tie.Need-loop-holds Inv-loop μ-loop
 loop-holds c = (search needs, record { long-f = omega arith; long-g = omega arith; entry = λ k h. absurd (omega arith) })
 
-mul-product-from : tie.Need-mul-product-from Inv-loop μ-loop
-mul-product-from c = search needs
-
-shared-slice-read-product-from : tie.Need-shared-slice-read-product-from Inv-loop μ-loop
-shared-slice-read-product-from c = search needs
-
-product-from-requires : tie.Need-product-from-requires Inv-loop μ-loop
-product-from-requires c κs = search needs
-
-mul-product-from-2 : tie.Need-mul-product-from-2 Inv-loop μ-loop
-mul-product-from-2 c = search needs
-
-shared-slice-read-product-from-2 : tie.Need-shared-slice-read-product-from-2 Inv-loop μ-loop
-shared-slice-read-product-from-2 c = search needs
-
-product-from-requires-2 : tie.Need-product-from-requires-2 Inv-loop μ-loop
-product-from-requires-2 c κs = search needs
-
-mul-out : tie.Need-mul-out Inv-loop μ-loop
-mul-out c = search needs
-
-array-write-out : tie.Need-array-write-out Inv-loop μ-loop
-array-write-out c = search needs
-
-add-i : tie.Need-add-i Inv-loop μ-loop
-add-i c = search needs
-
-loop-less : tie.Need-loop-less Inv-loop μ-loop
-loop-less c = search needs
-
 loop-again : tie.Need-loop-again Inv-loop μ-loop
 loop-again c =
     let l = c .before .before .before .before .before .loop in
@@ -64,15 +34,15 @@ mixed-spec =
     Inv-loop
     μ-loop
     loop-holds
-    mul-product-from
-    shared-slice-read-product-from
-    product-from-requires
-    mul-product-from-2
-    shared-slice-read-product-from-2
-    product-from-requires-2
-    mul-out
-    array-write-out
-    add-i
-    loop-less
+    (λ c. search needs)
+    (λ c. search needs)
+    (λ c κs. search needs)
+    (λ c. search needs)
+    (λ c. search needs)
+    (λ c κs. search needs)
+    (λ c. search needs)
+    (λ c. search needs)
+    (λ c. search needs)
+    (λ c. search needs)
     loop-again
     returns)

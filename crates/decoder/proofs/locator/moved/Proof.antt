@@ -17,30 +17,6 @@ Inv-loop p entries out₀ i₀ out i = (1 ≤ i) × (i ≤ 34) × (length out �
 abbrev μ-loop : tie.MeasureT-loop
 μ-loop p entries out₀ i₀ out i = 34 - i
 
-loop-holds : tie.Need-loop-holds Inv-loop μ-loop
-loop-holds c = search needs
-
-sub-out : tie.Need-sub-out Inv-loop μ-loop
-sub-out c = search needs
-
-mul-out : tie.Need-mul-out Inv-loop μ-loop
-mul-out c = search needs
-
-shared-slice-read-out : tie.Need-shared-slice-read-out Inv-loop μ-loop
-shared-slice-read-out c = search needs
-
-mul-out-2 : tie.Need-mul-out-2 Inv-loop μ-loop
-mul-out-2 c = search needs
-
-array-write-out : tie.Need-array-write-out Inv-loop μ-loop
-array-write-out c = search needs
-
-add-i : tie.Need-add-i Inv-loop μ-loop
-add-i c = search needs
-
-loop-less : tie.Need-loop-less Inv-loop μ-loop
-loop-less c = search needs
-
 loop-again : tie.Need-loop-again Inv-loop μ-loop
 loop-again c =
     let l = c .before .before .loop in (
@@ -62,13 +38,13 @@ moved-spec =
     (tie.spec
     Inv-loop
     μ-loop
-    loop-holds
-    sub-out
-    mul-out
-    shared-slice-read-out
-    mul-out-2
-    array-write-out
-    add-i
-    loop-less
+    (λ c. search needs)
+    (λ c. search needs)
+    (λ c. search needs)
+    (λ c. search needs)
+    (λ c. search needs)
+    (λ c. search needs)
+    (λ c. search needs)
+    (λ c. search needs)
     loop-again
     returns)

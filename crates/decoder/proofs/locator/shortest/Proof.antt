@@ -14,23 +14,8 @@ Inv-loop logs powers s count state₀ r₀ state r = (r ≤ count) × After s r 
 abbrev μ-loop : tie.MeasureT-loop
 μ-loop logs powers s count state₀ r₀ state r = count - r
 
-start-requires : tie.Need-start-requires Inv-loop μ-loop
-start-requires c κs = search needs
-
 loop-holds : tie.Need-loop-holds Inv-loop μ-loop
 loop-holds c = (search needs, c .start .ensures _)
-
-step-requires : tie.Need-step-requires Inv-loop μ-loop
-step-requires c κs = search needs
-
-add-r : tie.Need-add-r Inv-loop μ-loop
-add-r c = search needs
-
-loop-less : tie.Need-loop-less Inv-loop μ-loop
-loop-less c = search needs
-
-loop-again : tie.Need-loop-again Inv-loop μ-loop
-loop-again c = search needs
 
 returns : tie.Need-returns Inv-loop μ-loop
 returns c =
@@ -44,10 +29,10 @@ shortest-spec =
     (tie.spec
     Inv-loop
     μ-loop
-    start-requires
+    (λ c κs. search needs)
     loop-holds
-    step-requires
-    add-r
-    loop-less
-    loop-again
+    (λ c κs. search needs)
+    (λ c. search needs)
+    (λ c. search needs)
+    (λ c. search needs)
     returns)

@@ -5,14 +5,8 @@ use borrow.Author.Needs.{needs}
 use Rattle.decoder.proofs.locator.start.Statement.{statement}
 use Rattle.decoder.proofs.locator.start.Tie as tie
 
-array-write-locator : tie.Need-array-write-locator
-array-write-locator c = search needs
-
-array-write-other : tie.Need-array-write-other
-array-write-other c = search needs
-
 returns : tie.Need-returns
 returns c = after-start
 
 pub start-spec : {M : Type 1} → statement M
-start-spec = tie.close (tie.spec array-write-locator array-write-other returns)
+start-spec = tie.close (tie.spec (λ c. search needs) (λ c. search needs) returns)

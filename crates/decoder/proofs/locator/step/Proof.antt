@@ -5,26 +5,11 @@ use borrow.Author.Needs.{needs}
 use Rattle.decoder.proofs.locator.step.Statement.{statement}
 use Rattle.decoder.proofs.locator.step.Tie as tie
 
-discrepancy-requires : tie.Need-discrepancy-requires
-discrepancy-requires c κs = search needs
-
-moved-requires : tie.Need-moved-requires
-moved-requires c κs = search needs
-
 returns : tie.Need-returns
 returns c =
     let start = c .before .before .before .before .before .before .before in
     let d = c .before .before .before .discrepancy in
     rw (c .moved .ensures) (after-none (start .pre .2) (start .pre .1) (d .result) (d .ensures .0) (c .before .before .if1 .taken))
-
-mixed-requires : tie.Need-mixed-requires
-mixed-requires c κs = search needs
-
-add-if2 : tie.Need-add-if2
-add-if2 c = search needs
-
-moved-requires-2 : tie.Need-moved-requires-2
-moved-requires-2 c κs = search needs
 
 returns-2 : tie.Need-returns-2
 returns-2 c =
@@ -33,15 +18,6 @@ returns-2 c =
     rw (c .moved2 .ensures)
     (after-keep (start .pre .2) (start .pre .1) (d .result) (d .ensures .0) (c .before .before .before .mixed .ensures)
     (c .before .before .if2 .taken))
-
-moved-requires-3 : tie.Need-moved-requires-3
-moved-requires-3 c κs = search needs
-
-add-t19 : tie.Need-add-t19
-add-t19 c = search needs
-
-sub-t24 : tie.Need-sub-t24
-sub-t24 c = search needs
 
 returns-3 : tie.Need-returns-3
 returns-3 c =
@@ -55,14 +31,14 @@ pub step-spec : {M : Type 1} → statement M
 step-spec =
     tie.close
     (tie.spec
-    discrepancy-requires
-    moved-requires
+    (λ c κs. search needs)
+    (λ c κs. search needs)
     returns
-    mixed-requires
-    add-if2
-    moved-requires-2
+    (λ c κs. search needs)
+    (λ c. search needs)
+    (λ c κs. search needs)
     returns-2
-    moved-requires-3
-    add-t19
-    sub-t24
+    (λ c κs. search needs)
+    (λ c. search needs)
+    (λ c. search needs)
     returns-3)

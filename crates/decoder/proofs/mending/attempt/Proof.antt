@@ -12,27 +12,6 @@ use Rattle.decoder.proofs.mending.attempt.Tie as tie
 abbrev start : tie.After-shortest → tie.Start
 start q = q .before .before .before .before .before .before .before .before .before .before .before .before .before
 
-log-table-requires : tie.Need-log-table-requires
-log-table-requires c κs = search needs
-
-power-table-requires : tie.Need-power-table-requires
-power-table-requires c κs = search needs
-
-sub-syndromes : tie.Need-sub-syndromes
-sub-syndromes c = search needs
-
-mul-syndromes : tie.Need-mul-syndromes
-mul-syndromes c = search needs
-
-syndromes-requires : tie.Need-syndromes-requires
-syndromes-requires c κs = search needs
-
-mul-shortest : tie.Need-mul-shortest
-mul-shortest c = search needs
-
-shortest-requires : tie.Need-shortest-requires
-shortest-requires c κs = search needs
-
 returns : tie.Need-returns
 returns c =
     let q = c .before .before in
@@ -51,9 +30,6 @@ flip-requires c κs =
       (s .pre .0 .bits, omega (arith, s .pre .0 .long, s .pre .0 .sound .short), s .pre .1 .0 ∙ sym (s .pre .0 .long)),
     )
 
-same-length : tie.Need-same-length
-same-length c = search needs
-
 returns-2 : tie.Need-returns-2
 returns-2 c =
     let q = c .before .before .before .before .before .before .before .before .before .before in
@@ -67,14 +43,14 @@ pub attempt-spec : {M : Type 1} → statement M
 attempt-spec =
     tie.close
     (tie.spec
-    log-table-requires
-    power-table-requires
-    sub-syndromes
-    mul-syndromes
-    syndromes-requires
-    mul-shortest
-    shortest-requires
+    (λ c κs. search needs)
+    (λ c κs. search needs)
+    (λ c. search needs)
+    (λ c. search needs)
+    (λ c κs. search needs)
+    (λ c. search needs)
+    (λ c κs. search needs)
     returns
     flip-requires
-    same-length
+    (λ c. search needs)
     returns-2)

@@ -6,12 +6,12 @@ use native.Mathlib.Omega.{arith}
 use Prim.Native.Nat.{ℕ, _-_}
 use lib.Bits.{bitXor}
 use lib.ListN.{length, take, drop, length-drop}
-use Rattle.bch.specs.Registers.{packed, whole}
-use Rattle.bch.specs.Words.{lowest}
-use Rattle.bch.specs.Remainders.{remainder}
+use Rattle.bch.specs.Registers.{atTop, whole}
+use Rattle.bits.specs.Words.{lowest}
+use Rattle.bits.specs.Remainders.{remainder}
 use Rattle.decoder.specs.Candidates.{leftover}
 use lib.Seq.{length-take-le, take-all}
-use Rattle.bch.proofs.Digits.{bits-take, bits-drop, lowest-same}
+use Rattle.bits.proofs.Digits.{bits-take, bits-drop, lowest-same}
 use borrow.Author.Needs.{needs}
 use Rattle.decoder.proofs.mending.leftover.Statement.{statement}
 use Rattle.decoder.proofs.mending.leftover.Tie as tie
@@ -21,24 +21,6 @@ slice-aggregate-remainder c =
     let s = c .before .before .before in
     sym (length-take-le (s .args .c .k) (s .args .bits .now) (omega (arith, s .pre .long, s .pre .sound .rooted .order)))
 
-remainder-requires : tie.Need-remainder-requires
-remainder-requires c κs = search needs
-
-sub-packed : tie.Need-sub-packed
-sub-packed c = search needs
-
-part-packed-start : tie.Need-part-packed-start
-part-packed-start c = search needs
-
-part-packed-end : tie.Need-part-packed-end
-part-packed-end c = search needs
-
-packed-requires : tie.Need-packed-requires
-packed-requires c κs = search needs
-
-xor-requires : tie.Need-xor-requires
-xor-requires c κs = search needs
-
 returns : tie.Need-returns
 unfolding leftover
 returns c =
@@ -47,18 +29,19 @@ returns c =
     let e : take (length w - h .k) (drop (h .k) w) ≡ drop (h .k) w = take-all (length w - h .k) (drop (h .k) w) (omega (arith, length-drop (h .k) w)) in
     let bits = c .before .before .before .before .before .before .before .pre .bits in
     c .xor .ensures
-    ∙ ap₂ bitXor (c .before .before .before .remainder .ensures ∙ ap (remainder 192 (whole (h .generator))) (lowest-same (take (h .k) w) (bits-take (h .k) w bits)))
-    (c .before .packed .ensures ∙ ap (λ (l : List ℕ). packed (lowest l)) e ∙ ap packed (lowest-same (drop (h .k) w) (bits-drop (h .k) w bits)))
+    ∙ ap₂ bitXor
+    (c .before .before .before .remainder .ensures ∙ ap (remainder 192 (whole (h .generator))) (lowest-same (take (h .k) w) (bits-take (h .k) w bits)))
+    (c .before .at-top .ensures ∙ ap (λ (l : List ℕ). atTop (lowest l)) e ∙ ap atTop (lowest-same (drop (h .k) w) (bits-drop (h .k) w bits)))
 
 pub leftover-spec : {M : Type 1} → statement M
 leftover-spec =
     tie.close
     (tie.spec
     slice-aggregate-remainder
-    remainder-requires
-    sub-packed
-    part-packed-start
-    part-packed-end
-    packed-requires
-    xor-requires
+    (λ c κs. search needs)
+    (λ c. search needs)
+    (λ c. search needs)
+    (λ c. search needs)
+    (λ c κs. search needs)
+    (λ c κs. search needs)
     returns)

@@ -7,15 +7,6 @@ use borrow.Author.Needs.{needs}
 use Rattle.decoder.proofs.mending.mend.Statement.{statement}
 use Rattle.decoder.proofs.mending.mend.Tie as tie
 
-attempt-requires : tie.Need-attempt-requires
-attempt-requires c κs = search needs
-
-enum-told : tie.Need-enum-told
-enum-told c = search needs
-
-enum-known-tried : tie.Need-enum-known-tried
-enum-known-tried c = search needs
-
 settle-requires : tie.Need-settle-requires
 settle-requires c κs =
     let q = c .before .before .before .before .before .before .before in
@@ -23,19 +14,10 @@ settle-requires c κs =
     let found = rw (c .before .before .before .tried .given .1) at (q .attempt .ensures) in
     record { sound = s .pre .0 .sound; bits = found .bits; long = found .long; room = s .pre .0 .room }
 
-same-length : tie.Need-same-length
-same-length c = search needs
-
 returns : tie.Need-returns
 returns c =
     let none = rw (c .enum-told .given .1) at (c .before .before .before .before .attempt .ensures) in
-    inr (record { none = none; number = refl; place = refl; count = refl; left = refl })
-
-same-length-2 : tie.Need-same-length-2
-same-length-2 c = search needs
-
-same-length-3 : tie.Need-same-length-3
-same-length-3 c = search needs
+    inr (record { none = none; tells = refl; left = refl })
 
 returns-2 : tie.Need-returns-2
 returns-2 c =
@@ -49,12 +31,12 @@ pub mend-spec : {M : Type 1} → statement M
 mend-spec =
     tie.close
     (tie.spec
-    attempt-requires
-    enum-told
-    enum-known-tried
+    (λ c κs. search needs)
+    (λ c. search needs)
+    (λ c. search needs)
     settle-requires
-    same-length
+    (λ c. search needs)
     returns
-    same-length-2
-    same-length-3
+    (λ c. search needs)
+    (λ c. search needs)
     returns-2)

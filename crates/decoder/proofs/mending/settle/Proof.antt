@@ -2,31 +2,19 @@
 -- Assumes nothing.
 use mathlib.Core.Path.{refl, sym, _∙_}
 use borrow.Author.Tests.{eqb-true, eqb-false}
-use Rattle.bch.specs.Registers.{number}
-use Rattle.bch.proofs.Parts.{copied}
+use Rattle.bch.specs.Registers.{contents}
+use Rattle.bits.proofs.Parts.{copied}
 use Rattle.decoder.proofs.Leftovers.{codeword-of-zero, zero-of-codeword}
 use borrow.Author.Needs.{needs}
 use Rattle.decoder.proofs.mending.settle.Statement.{statement}
 use Rattle.decoder.proofs.mending.settle.Tie as tie
-
-leftover-requires : tie.Need-leftover-requires
-leftover-requires c κs = search needs
-
-is-zero-requires : tie.Need-is-zero-requires
-is-zero-requires c κs = search needs
-
-copy-requires : tie.Need-copy-requires
-copy-requires c κs = search needs
-
-same-length : tie.Need-same-length
-same-length c = search needs
 
 returns : tie.Need-returns
 returns c =
     let start = c .before .before .before .before .before .before .before .before .before in
     let test = c .before .before .before .before in
     let left = test .before .before .leftover in
-    let zero = sym (left .ensures) ∙ eqb-true (number (left .result)) 0 (sym (test .before .is-zero .ensures) ∙ test .if1 .taken) in (
+    let zero = sym (left .ensures) ∙ eqb-true (contents (left .result)) 0 (sym (test .before .is-zero .ensures) ∙ test .if1 .taken) in (
       refl,
       codeword-of-zero (start .pre .sound) (start .args .copy .now) (start .pre .bits) (start .pre .long) zero,
       c .before .before .copy .ensures .1 ∙ copied (start .args .copy .now) (start .args .out .now) (start .args .c .n) (start .pre .long),
@@ -37,7 +25,7 @@ returns-2 c =
     let start = c .before .before .before .before .before in
     let left = c .before .before .leftover in (
       refl,
-      (λ w. eqb-false (number (left .result)) 0 (sym (c .before .is-zero .ensures) ∙ c .if1 .left)
+      (λ w. eqb-false (contents (left .result)) 0 (sym (c .before .is-zero .ensures) ∙ c .if1 .left)
           (left .ensures ∙ zero-of-codeword (start .pre .sound) (start .args .copy .now) (start .pre .bits) (start .pre .long) w)),
       refl,
     )
@@ -45,4 +33,4 @@ returns-2 c =
 pub settle-spec : {M : Type 1} → statement M
 settle-spec =
     tie.close
-    (tie.spec leftover-requires is-zero-requires copy-requires same-length returns returns-2)
+    (tie.spec (λ c κs. search needs) (λ c κs. search needs) (λ c κs. search needs) (λ c. search needs) returns returns-2)

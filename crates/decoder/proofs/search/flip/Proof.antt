@@ -4,7 +4,7 @@ use Prim.Native.Nat.{suc, _-_, _≤_, _<_}
 use native.Mathlib.Nat.{sub-zero}
 use native.Mathlib.Omega.{arith}
 use lib.ListN.{length}
-use Rattle.bch.proofs.Digits.{bits-at}
+use Rattle.bits.proofs.Digits.{bits-at}
 use Rattle.decoder.specs.Locators.{valueAt}
 use Rattle.decoder.proofs.Summands.{Valued, valued}
 use Rattle.decoder.proofs.Flips.{hit-one, Upto, upto-none, upto-all, upto-next}
@@ -20,24 +20,6 @@ Inv-loop logs powers locator len word copy₀ n sums count₀ i₀ copy count i 
 abbrev μ-loop : tie.MeasureT-loop
 μ-loop logs powers locator len word copy₀ n sums count₀ i₀ copy count i = length word - i
 
-none-requires : tie.Need-none-requires Inv-loop μ-loop
-none-requires c κs = search needs
-
-sub-values : tie.Need-sub-values Inv-loop μ-loop
-sub-values c = search needs
-
-sub-values-2 : tie.Need-sub-values-2 Inv-loop μ-loop
-sub-values-2 c = search needs
-
-part-sums-start : tie.Need-part-sums-start Inv-loop μ-loop
-part-sums-start c = search needs
-
-part-sums-end : tie.Need-part-sums-end Inv-loop μ-loop
-part-sums-end c = search needs
-
-values-requires : tie.Need-values-requires Inv-loop μ-loop
-values-requires c κs = search needs
-
 loop-holds : tie.Need-loop-holds Inv-loop μ-loop
 loop-holds c =
     let start = c .before .before .before .before .before .before in
@@ -49,37 +31,16 @@ loop-holds c =
       valued (length (args .word .now)) 508 (none .ensures) (start .pre .1 .1) values _,
     )
 
-mul-v : tie.Need-mul-v Inv-loop μ-loop
-mul-v c = search needs
-
-array-read-v : tie.Need-array-read-v Inv-loop μ-loop
-array-read-v c = search needs
-
-hit-requires : tie.Need-hit-requires Inv-loop μ-loop
-hit-requires c κs = search needs
-
 add-count : tie.Need-add-count Inv-loop μ-loop
 add-count c =
     let loop = c .before .before .loop in
     let one = hit-one (loop .inv .2) (loop .i) (c .hit .ensures) in
     omega (arith, loop .inv .1 .few)
 
-shared-slice-read-flipped : tie.Need-shared-slice-read-flipped Inv-loop μ-loop
-shared-slice-read-flipped c = search needs
-
 flipped-requires : tie.Need-flipped-requires Inv-loop μ-loop
 flipped-requires c κs =
     let start = c .before .before .before .before .before .before .before .before .before .before in
     bits-at (start .args .word .now) (start .pre .1 .0) (c .before .before .before .loop .i)
-
-slice-write-copy : tie.Need-slice-write-copy Inv-loop μ-loop
-slice-write-copy c = search needs
-
-add-i : tie.Need-add-i Inv-loop μ-loop
-add-i c = search needs
-
-loop-less : tie.Need-loop-less Inv-loop μ-loop
-loop-less c = search needs
 
 loop-again : tie.Need-loop-again Inv-loop μ-loop
 unfolding series
@@ -94,9 +55,6 @@ loop-again c =
       loop .inv .2,
     )
 
-same-length : tie.Need-same-length Inv-loop μ-loop
-same-length c = search needs
-
 returns : tie.Need-returns Inv-loop μ-loop
 returns c = upto-all _ _ _ _ _ _ (omega arith) (c .before .loop .inv .1)
 
@@ -106,22 +64,22 @@ flip-spec =
     (tie.spec
     Inv-loop
     μ-loop
-    none-requires
-    sub-values
-    sub-values-2
-    part-sums-start
-    part-sums-end
-    values-requires
+    (λ c κs. search needs)
+    (λ c. search needs)
+    (λ c. search needs)
+    (λ c. search needs)
+    (λ c. search needs)
+    (λ c κs. search needs)
     loop-holds
-    mul-v
-    array-read-v
-    hit-requires
+    (λ c. search needs)
+    (λ c. search needs)
+    (λ c κs. search needs)
     add-count
-    shared-slice-read-flipped
+    (λ c. search needs)
     flipped-requires
-    slice-write-copy
-    add-i
-    loop-less
+    (λ c. search needs)
+    (λ c. search needs)
+    (λ c. search needs)
     loop-again
-    same-length
+    (λ c. search needs)
     returns)

@@ -5,9 +5,6 @@ use borrow.Author.Needs.{needs}
 use Rattle.decoder.proofs.search.flipped.Statement.{statement}
 use Rattle.decoder.proofs.search.flipped.Tie as tie
 
-sub-result : tie.Need-sub-result
-sub-result c = search needs
-
 returns : tie.Need-returns
 returns c = simp (eq-eqb _ _ (c .if1 .taken))
 
@@ -15,4 +12,4 @@ returns-2 : tie.Need-returns-2
 returns-2 c = simp (ne-eqb _ _ (c .if1 .left))
 
 pub flipped-spec : {M : Type 1} → statement M
-flipped-spec = tie.close (tie.spec sub-result returns returns-2)
+flipped-spec = tie.close (tie.spec (λ c. search needs) returns returns-2)

@@ -7,12 +7,6 @@ use borrow.Author.Needs.{needs}
 use Rattle.decoder.proofs.search.term.Statement.{statement}
 use Rattle.decoder.proofs.search.term.Tie as tie
 
-mul-log : tie.Need-mul-log
-mul-log c = search needs
-
-element-copy-out-log : tie.Need-element-copy-out-log
-element-copy-out-log c = search needs
-
 cast-log : tie.Need-cast-log
 cast-log c =
     let start = c .before .before in
@@ -28,12 +22,6 @@ add-add c =
     let start = c .before .before .before in
     omega (arith, mul-le-mul-left (start .args .i) (start .pre .3))
 
-add-requires : tie.Need-add-requires
-add-requires c κs = search needs
-
-same-length : tie.Need-same-length
-same-length c = search needs
-
 returns : tie.Need-returns
 returns c =
     let start = c .before .before .before .before .before .before .before in
@@ -48,12 +36,12 @@ pub term-spec : {M : Type 1} → statement M
 term-spec =
     tie.close
     (tie.spec
-    mul-log
-    element-copy-out-log
+    (λ c. search needs)
+    (λ c. search needs)
     cast-log
     mul-add
     add-add
-    add-requires
-    same-length
+    (λ c κs. search needs)
+    (λ c. search needs)
     returns
     returns-2)

@@ -18,28 +18,13 @@ abbrev μ-loop : tie.MeasureT-loop
 loop-holds : tie.Need-loop-holds Inv-loop μ-loop
 loop-holds c = (omega arith, values-none _ _ _)
 
-mul-term : tie.Need-mul-term Inv-loop μ-loop
-mul-term c = search needs
-
-element-copy-out-term : tie.Need-element-copy-out-term Inv-loop μ-loop
-element-copy-out-term c = search needs
-
 term-requires : tie.Need-term-requires Inv-loop μ-loop
 term-requires c κs =
     let start = c .before .before .before .before .before in
     (start .pre .0, start .pre .2 (c .before .before .before .loop .i), omega arith, omega arith)
 
-add-i : tie.Need-add-i Inv-loop μ-loop
-add-i c = search needs
-
-loop-less : tie.Need-loop-less Inv-loop μ-loop
-loop-less c = search needs
-
 loop-again : tie.Need-loop-again Inv-loop μ-loop
 loop-again c = (omega arith, values-more _ _ (c .before .before .before .before .before .before .loop .inv .1) (c .before .before .term .ensures) (omega arith))
-
-same-length : tie.Need-same-length Inv-loop μ-loop
-same-length c = search needs
 
 returns : tie.Need-returns Inv-loop μ-loop
 returns c =
@@ -54,11 +39,11 @@ values-spec =
     Inv-loop
     μ-loop
     loop-holds
-    mul-term
-    element-copy-out-term
+    (λ c. search needs)
+    (λ c. search needs)
     term-requires
-    add-i
-    loop-less
+    (λ c. search needs)
+    (λ c. search needs)
     loop-again
-    same-length
+    (λ c. search needs)
     returns)

@@ -7,21 +7,6 @@ use borrow.Author.Needs.{needs}
 use Rattle.decoder.proofs.syndrome.syndromes.Statement.{statement}
 use Rattle.decoder.proofs.syndrome.syndromes.Tie as tie
 
-zeros-requires : tie.Need-zeros-requires
-zeros-requires c κs = search needs
-
-sub-values : tie.Need-sub-values
-sub-values c = search needs
-
-part-out-start : tie.Need-part-out-start
-part-out-start c = search needs
-
-part-out-end : tie.Need-part-out-end
-part-out-end c = search needs
-
-values-requires : tie.Need-values-requires
-values-requires c κs = search needs
-
 returns : tie.Need-returns
 returns c i h =
     let s = c .before .before .before .before in
@@ -30,4 +15,4 @@ returns c i h =
 pub syndromes-spec : {M : Type 1} → statement M
 syndromes-spec =
     tie.close
-    (tie.spec zeros-requires sub-values part-out-start part-out-end values-requires returns)
+    (tie.spec (λ c κs. search needs) (λ c. search needs) (λ c. search needs) (λ c. search needs) (λ c κs. search needs) returns)

@@ -5,12 +5,6 @@ use borrow.Author.Needs.{needs}
 use Rattle.decoder.proofs.syndrome.term.Statement.{statement}
 use Rattle.decoder.proofs.syndrome.term.Tie as tie
 
-add-requires : tie.Need-add-requires
-add-requires c κs = search needs
-
-same-length : tie.Need-same-length
-same-length c = search needs
-
 returns : tie.Need-returns
 returns c =
     let s = c .before .before .before .before .before .before .args in
@@ -22,4 +16,4 @@ returns-2 c =
     term-of-0 (s .args .b) (s .args .d) (s .args .sums .now) (s .pre .1) (c .if1 .left)
 
 pub term-spec : {M : Type 1} → statement M
-term-spec = tie.close (tie.spec add-requires same-length returns returns-2)
+term-spec = tie.close (tie.spec (λ c κs. search needs) (λ c. search needs) returns returns-2)

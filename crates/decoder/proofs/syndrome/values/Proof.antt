@@ -7,7 +7,7 @@ use Rattle.algebra.proofs.Fields.{add-self}
 use Rattle.algebra.proofs.Powers.{pow}
 use Rattle.field.proofs.Elements.{GF512}
 use Rattle.field.proofs.Values.{a, value}
-use Rattle.bch.specs.Registers.{number, tops}
+use Rattle.bch.specs.Registers.{contents, tops}
 use Rattle.decoder.specs.Locators.{Plus}
 use Rattle.decoder.proofs.Summands.{plus-none, plus-same}
 use Rattle.decoder.proofs.Syndromic.{turn, none-left}
@@ -18,7 +18,7 @@ use Rattle.decoder.proofs.syndrome.values.Tie as tie
 abbrev Inv-loop : tie.InvT-loop
 Inv-loop powers r sums₀ rest₀ d₀ sums rest d =
     (d ≤ r)
-    × Plus (λ i. GF512 .add (value (pow GF512 a (suc i)) (tops r (number rest₀))) (value (pow GF512 a (suc i)) (tops d (number rest)))) sums₀ sums
+    × Plus (λ i. GF512 .add (value (pow GF512 a (suc i)) (tops r (contents rest₀))) (value (pow GF512 a (suc i)) (tops d (contents rest)))) sums₀ sums
 
 abbrev μ-loop : tie.MeasureT-loop
 μ-loop powers r sums₀ rest₀ d₀ sums rest d = d
@@ -26,22 +26,10 @@ abbrev μ-loop : tie.MeasureT-loop
 loop-holds : tie.Need-loop-holds Inv-loop μ-loop
 loop-holds c = (omega arith, plus-none _ (λ i. add-self GF512 _))
 
-sub-d : tie.Need-sub-d Inv-loop μ-loop
-sub-d c = search needs
-
-top-requires : tie.Need-top-requires Inv-loop μ-loop
-top-requires c κs = search needs
-
 term-requires : tie.Need-term-requires Inv-loop μ-loop
 term-requires c κs =
     let s = c .before .before .before .before .before in
     (s .pre .0, c .before .top .ensures .1, omega arith)
-
-up-requires : tie.Need-up-requires Inv-loop μ-loop
-up-requires c κs = search needs
-
-loop-less : tie.Need-loop-less Inv-loop μ-loop
-loop-less c = search needs
 
 loop-again : tie.Need-loop-again Inv-loop μ-loop
 loop-again c =
@@ -51,8 +39,8 @@ loop-again c =
     let s = c .before .before .before .before .before .before .before .before .before .args in
     let e : l .d ≡ suc (l .d - 1) = omega arith in (
       omega arith,
-      turn (l .d - 1) (t .result) (number (l .rest)) (number (c .up .result)) (t .ensures .0) (t .ensures .1) (c .up .ensures)
-          (λ i. value (pow GF512 a (suc i)) (tops (s .r) (number (s .left)))) (rw e at (l .inv .1)) (m .ensures),
+      turn (l .d - 1) (t .result) (contents (l .rest)) (contents (c .up .result)) (t .ensures .0) (t .ensures .1) (c .up .ensures)
+          (λ i. value (pow GF512 a (suc i)) (tops (s .r) (contents (s .left)))) (rw e at (l .inv .1)) (m .ensures),
     )
 
 same-length : tie.Need-same-length Inv-loop μ-loop
@@ -62,7 +50,7 @@ returns : tie.Need-returns Inv-loop μ-loop
 returns c =
     let l = c .before .loop in
     let e : l .d ≡ 0 = omega arith in
-    plus-same (l .inv .1) (λ i. rw e (none-left _ _ (number (l .rest))))
+    plus-same (l .inv .1) (λ i. rw e (none-left _ _ (contents (l .rest))))
 
 pub values-spec : {M : Type 1} → statement M
 values-spec =
@@ -71,11 +59,11 @@ values-spec =
     Inv-loop
     μ-loop
     loop-holds
-    sub-d
-    top-requires
+    (λ c. search needs)
+    (λ c κs. search needs)
     term-requires
-    up-requires
-    loop-less
+    (λ c κs. search needs)
+    (λ c. search needs)
     loop-again
     same-length
     returns)

@@ -28,61 +28,10 @@ Inv-loop2 powers e d sums₀ two three four at₀ i₀ sums at i =
 abbrev μ-loop2 : tie.MeasureT-loop2
 μ-loop2 powers e d sums₀ two three four at₀ i₀ sums at i = length sums₀ - i
 
-mul-two : tie.Need-mul-two Inv-loop μ-loop Inv-loop2 μ-loop2
-mul-two c = search needs
-
-mul-three : tie.Need-mul-three Inv-loop μ-loop Inv-loop2 μ-loop2
-mul-three c = search needs
-
-mul-four : tie.Need-mul-four Inv-loop μ-loop Inv-loop2 μ-loop2
-mul-four c = search needs
-
 loop-holds : tie.Need-loop-holds Inv-loop μ-loop Inv-loop2 μ-loop2
 loop-holds c =
     let args = c .before .args in
     (omega arith, omega arith, ap power (omega arith), begun-none (args .e) (args .d) (args .sums .now))
-
-add-loop : tie.Need-add-loop Inv-loop μ-loop Inv-loop2 μ-loop2
-add-loop c = search needs
-
-add-at-requires : tie.Need-add-at-requires Inv-loop μ-loop Inv-loop2 μ-loop2
-add-at-requires c κs = search needs
-
-add-add-at : tie.Need-add-add-at Inv-loop μ-loop Inv-loop2 μ-loop2
-add-add-at c = search needs
-
-add-add-at-2 : tie.Need-add-add-at-2 Inv-loop μ-loop Inv-loop2 μ-loop2
-add-add-at-2 c = search needs
-
-add-at-requires-2 : tie.Need-add-at-requires-2 Inv-loop μ-loop Inv-loop2 μ-loop2
-add-at-requires-2 c κs = search needs
-
-add-add-at-3 : tie.Need-add-add-at-3 Inv-loop μ-loop Inv-loop2 μ-loop2
-add-add-at-3 c = search needs
-
-add-add-at-4 : tie.Need-add-add-at-4 Inv-loop μ-loop Inv-loop2 μ-loop2
-add-add-at-4 c = search needs
-
-add-at-requires-3 : tie.Need-add-at-requires-3 Inv-loop μ-loop Inv-loop2 μ-loop2
-add-at-requires-3 c κs = search needs
-
-add-add-at-5 : tie.Need-add-add-at-5 Inv-loop μ-loop Inv-loop2 μ-loop2
-add-add-at-5 c = search needs
-
-add-add-at-6 : tie.Need-add-add-at-6 Inv-loop μ-loop Inv-loop2 μ-loop2
-add-add-at-6 c = search needs
-
-add-at-requires-4 : tie.Need-add-at-requires-4 Inv-loop μ-loop Inv-loop2 μ-loop2
-add-at-requires-4 c κs = search needs
-
-add-reduced : tie.Need-add-reduced Inv-loop μ-loop Inv-loop2 μ-loop2
-add-reduced c = search needs
-
-reduced-requires : tie.Need-reduced-requires Inv-loop μ-loop Inv-loop2 μ-loop2
-reduced-requires c κs = search needs
-
-add-i : tie.Need-add-i Inv-loop μ-loop Inv-loop2 μ-loop2
-add-i c = search needs
 
 loop-less : tie.Need-loop-less Inv-loop μ-loop Inv-loop2 μ-loop2
 loop-less c = omega arith
@@ -111,21 +60,6 @@ loop-again c =
     let b4 = begun-more e d old b3 (omega arith) (fourth .add-at4 .ensures) (on _ 3 refl) (i + 4) (omega arith) in
     (omega arith, rw (c .reduced .ensures) (mod-lt _ (lit< tt)), rw (c .reduced .ensures) (power-on-mod e d i at is _ 4 refl), b4)
 
-loop2-holds : tie.Need-loop2-holds Inv-loop μ-loop Inv-loop2 μ-loop2
-loop2-holds c = search needs
-
-add-at-requires-5 : tie.Need-add-at-requires-5 Inv-loop μ-loop Inv-loop2 μ-loop2
-add-at-requires-5 c κs = search needs
-
-add-reduced-2 : tie.Need-add-reduced-2 Inv-loop μ-loop Inv-loop2 μ-loop2
-add-reduced-2 c = search needs
-
-reduced-requires-2 : tie.Need-reduced-requires-2 Inv-loop μ-loop Inv-loop2 μ-loop2
-reduced-requires-2 c κs = search needs
-
-add-i-2 : tie.Need-add-i-2 Inv-loop μ-loop Inv-loop2 μ-loop2
-add-i-2 c = search needs
-
 loop2-less : tie.Need-loop2-less Inv-loop μ-loop Inv-loop2 μ-loop2
 loop2-less c = omega arith
 
@@ -149,9 +83,6 @@ loop2-again c =
       λ old b. begun-more e d old (loop .inv .4 old b) (omega (arith, b .long)) there here (i + 1) (omega arith),
     )
 
-same-length : tie.Need-same-length Inv-loop μ-loop Inv-loop2 μ-loop2
-same-length c = search needs
-
 returns : tie.Need-returns Inv-loop μ-loop Inv-loop2 μ-loop2
 returns c =
     let start = c .before .before .before .before .before in
@@ -165,32 +96,32 @@ add-spec =
     μ-loop
     Inv-loop2
     μ-loop2
-    mul-two
-    mul-three
-    mul-four
+    (λ c. search needs)
+    (λ c. search needs)
+    (λ c. search needs)
     loop-holds
-    add-loop
-    add-at-requires
-    add-add-at
-    add-add-at-2
-    add-at-requires-2
-    add-add-at-3
-    add-add-at-4
-    add-at-requires-3
-    add-add-at-5
-    add-add-at-6
-    add-at-requires-4
-    add-reduced
-    reduced-requires
-    add-i
+    (λ c. search needs)
+    (λ c κs. search needs)
+    (λ c. search needs)
+    (λ c. search needs)
+    (λ c κs. search needs)
+    (λ c. search needs)
+    (λ c. search needs)
+    (λ c κs. search needs)
+    (λ c. search needs)
+    (λ c. search needs)
+    (λ c κs. search needs)
+    (λ c. search needs)
+    (λ c κs. search needs)
+    (λ c. search needs)
     loop-less
     loop-again
-    loop2-holds
-    add-at-requires-5
-    add-reduced-2
-    reduced-requires-2
-    add-i-2
+    (λ c. search needs)
+    (λ c κs. search needs)
+    (λ c. search needs)
+    (λ c κs. search needs)
+    (λ c. search needs)
     loop2-less
     loop2-again
-    same-length
+    (λ c. search needs)
     returns)

@@ -49,27 +49,6 @@ loop-holds c =
     let s = c .before .args in
     (omega arith, refl, refl, ap (λ (n : ℕ). registerAfter n (s .register)) (sub-zero (length (s .bits .now))))
 
-form-requires : tie.Need-form-requires Inv-loop μ-loop
-form-requires c κs = search needs
-
-cast-bits : tie.Need-cast-bits Inv-loop μ-loop
-cast-bits c = search needs
-
-slice-read-bits : tie.Need-slice-read-bits Inv-loop μ-loop
-slice-read-bits c = search needs
-
-slice-write-bits : tie.Need-slice-write-bits Inv-loop μ-loop
-slice-write-bits c = search needs
-
-shift-requires : tie.Need-shift-requires Inv-loop μ-loop
-shift-requires c κs = search needs
-
-add-i : tie.Need-add-i Inv-loop μ-loop
-add-i c = search needs
-
-loop-less : tie.Need-loop-less Inv-loop μ-loop
-loop-less c = search needs
-
 loop-again : tie.Need-loop-again Inv-loop μ-loop
 loop-again c =
     let l = c .before .before .before .before .loop in
@@ -94,13 +73,13 @@ scramble-spec =
     Inv-loop
     μ-loop
     loop-holds
-    form-requires
-    cast-bits
-    slice-read-bits
-    slice-write-bits
-    shift-requires
-    add-i
-    loop-less
+    (λ c κs. search needs)
+    (λ c. search needs)
+    (λ c. search needs)
+    (λ c. search needs)
+    (λ c κs. search needs)
+    (λ c. search needs)
+    (λ c. search needs)
     loop-again
     same-length
     returns)

@@ -7,9 +7,9 @@ use native.Mathlib.Omega.{arith}
 use native.Mathlib.Numerals.{add-one}
 use lib.ListN.{length, getD, drop, drop-of-length-le}
 use lib.Seq.{drop-cons}
-use Rattle.bch.specs.Remainders.{step, remainder, remainderFrom}
+use Rattle.bits.specs.Remainders.{step, remainder, remainderFrom}
 use Rattle.payload_a.specs.Check.{checkPolynomial, checkOf}
-use Rattle.bch.specs.Words.{lowest}
+use Rattle.bits.specs.Words.{lowest}
 use borrow.Author.Needs.{needs}
 use Rattle.payload_a.proofs.check.check_of.Statement.{statement}
 use Rattle.payload_a.proofs.check.check_of.Tie as tie
@@ -35,18 +35,6 @@ loop-holds : tie.Need-loop-holds Inv-loop μ-loop
 unfolding checkOf remainder
 loop-holds c = (omega arith, refl)
 
-shared-slice-read-take-in : tie.Need-shared-slice-read-take-in Inv-loop μ-loop
-shared-slice-read-take-in c = search needs
-
-take-in-requires : tie.Need-take-in-requires Inv-loop μ-loop
-take-in-requires c κs = search needs
-
-add-i : tie.Need-add-i Inv-loop μ-loop
-add-i c = search needs
-
-loop-less : tie.Need-loop-less Inv-loop μ-loop
-loop-less c = search needs
-
 loop-again : tie.Need-loop-again Inv-loop μ-loop
 loop-again c =
     let l = c .before .before .before .loop in
@@ -66,9 +54,9 @@ check-of-spec =
     Inv-loop
     μ-loop
     loop-holds
-    shared-slice-read-take-in
-    take-in-requires
-    add-i
-    loop-less
+    (λ c. search needs)
+    (λ c κs. search needs)
+    (λ c. search needs)
+    (λ c. search needs)
     loop-again
     returns)

@@ -5,7 +5,7 @@ use Prim.Native.Nat.{ℕ, _*_, _/_, _%_, _^_, _<_}
 use native.Mathlib.Omega.{arith}
 use lib.Bits.{bitXor}
 use lib.Dec.{lit<}
-use Rattle.bch.proofs.Remainders.{halved, step-same, step-other}
+use Rattle.bits.proofs.Remainders.{halved, step-same, step-other}
 use Rattle.payload_a.specs.Check.{checkPolynomial}
 use borrow.Author.Needs.{needs}
 use Rattle.payload_a.proofs.check.take_in.Statement.{statement}
@@ -14,9 +14,6 @@ use Rattle.payload_a.proofs.check.take_in.Tie as tie
 -- the register one place up, in 32 digits
 moved : (x : ℕ) → x % 2 ^ 31 * 2 ≡ x * 2 % 2 ^ 32
 moved x = omega arith
-
-mul-moved : tie.Need-mul-moved
-mul-moved c = search needs
 
 returns : tie.Need-returns
 returns c =
@@ -33,4 +30,4 @@ returns-2 c =
     ∙ sym (step-other 32 x (s .b) n (lit< tt) (c .before .pre) top (λ e. c .if1 .left (sym (halved 31 x) ∙ e)))
 
 pub take-in-spec : {M : Type 1} → statement M
-take-in-spec = tie.close (tie.spec mul-moved returns returns-2)
+take-in-spec = tie.close (tie.spec (λ c. search needs) returns returns-2)

@@ -1,38 +1,49 @@
 -- `payload_b::plan::judged` meets its contract: each check that fails is the first that does.
 -- Assumes nothing.
-use mathlib.Core.Path.{_≡_, sym, ap, _∙_}
-use mathlib.Core.List.{List}
-use Prim.Native.Nat.{ℕ, _%_, _≤_, _<_, min}
+use mathlib.Core.Path.{_≡_, sym, ap, ap₂, _∙_}
+use Prim.Native.Nat.{ℕ, min, _+_, _-_, _*_, _/_, _%_, _≤_}
 use native.Mathlib.Omega.{arith}
 use native.Mathlib.Nat.{min-le-left, min-eq-left}
-use lib.ListN.{length}
-use Rattle.payload_b.specs.CodedB.{blockBytes, symbolsFor}
-use Rattle.payload.specs.Checked.{fails}
-use Rattle.payload_b.specs.PromiseB.{badEntry}
+use Rattle.answers.specs.Checks.{fails}
+use Rattle.payload_b.specs.CodedB.{blockBytes, blockBits, blocksIn, sumOf, symbolsFor}
 use Rattle.payload_b.specs.PlanB.{Scheme}
-use Rattle.payload_b.proofs.Schemes.{bad-most}
+use Rattle.payload_b.proofs.Schemes.{bad-most, sum-whole, sum-least, sum-most}
 use Rattle.payload_b.proofs.Blocks.{block-bytes-pos}
 use Rattle.payload_b.proofs.Plans.{mode-unknown, none-sent, not-whole, other-length, some-bad, too-many}
 use borrow.Author.Needs.{needs}
 use Rattle.payload_b.proofs.plan.judged.Statement.{statement}
 use Rattle.payload_b.proofs.plan.judged.Tie as tie
 
--- what the functions answered, said of what they are asked for
-whole-by : (n b c : ℕ) → b ≡ c → n % b ≡ 0 → n % c ≡ 0
-whole-by n b c e h = rw (← e) h
+-- where the length is looked at, where the scheme's entries are, and where all of them are good
+abbrev first : tie.After-block-bytes → tie.Start
+first c = c .before .before .before .before
 
-part-by : (n b c : ℕ) → b ≡ c → (n % b ≡ 0 → ⊥) → n % c ≡ 0 → ⊥
-part-by n b c e h w = h (whole-by n c b (sym e) w)
+abbrev second : tie.Else4 → tie.Start
+second c = first (c .before .before)
 
-few-by : (m n : ℕ) → m ≡ min n 257 → m ≤ 256 → n ≤ 256
-few-by m n e l = omega arith
+abbrev fifth : tie.Else5 → tie.Start
+fifth c = second (c .before .before)
 
-many-by : (m n : ℕ) → m ≡ min n 257 → 256 < m → 256 < n
-many-by m n e l = omega (arith, min-le-left n 257)
+-- whole blocks
+whole : (c : tie.Else3) → let a = first (c .before) .args in a .size % blockBytes (a .mode) ≡ 0
+whole c = ap (λ (n : ℕ). first (c .before) .args .size % n) (sym (c .before .block-bytes .ensures)) ∙ c .if3 .left
 
 -- a scheme of 210 entries, none of them bad
-scheme-by : (scheme : List ℕ) → length scheme ≡ 210 → 210 ≤ badEntry scheme → Scheme scheme
-scheme-by scheme long good = record { long = long; entries = omega (arith, bad-most scheme) }
+good : (c : tie.Else5) → Scheme (fifth c .args .scheme .now)
+good c = record { long = omega arith; entries = omega (arith, bad-most (fifth c .args .scheme .now)) }
+
+-- the bits of an OFDM symbol, and the OFDM symbols needed
+summed : (c : tie.After-sum) → c .sum .result ≡ sumOf (fifth (c .before .before) .args .scheme .now)
+summed c = c .sum .ensures ∙ sum-whole (good (c .before .before))
+
+abbrev sixth : tie.After-symbols → tie.Else5
+sixth c = c .before .before .before
+
+counted : (c : tie.After-symbols) → let a = fifth (sixth c) .args in c .symbols .result ≡ min (symbolsFor (a .mode) (a .size) (a .scheme .now)) 257
+counted c =
+    let a = fifth (sixth c) .args in
+    let bytes = c .before .before .block-bytes2 .ensures in
+    c .symbols .ensures ∙ ap₂ (λ (b s : ℕ). min ((blockBits (a .mode) * (a .size / b) + (s - 1)) / s) 257) bytes (summed (c .before))
 
 returns : tie.Need-returns
 returns c next =
@@ -44,62 +55,60 @@ returns-2 c next =
     let a = c .before .before .before .args in
     none-sent (a .mode) (a .size) (a .scheme .now) next (omega arith) (omega arith)
 
-block-bytes-requires : tie.Need-block-bytes-requires
-block-bytes-requires c κs = search needs
-
 rem-if3 : tie.Need-rem-if3
-rem-if3 c = omega (arith, block-bytes-pos (c .before .before .before .before .args .mode))
+rem-if3 c = omega (arith, block-bytes-pos (first c .args .mode))
 
 returns-3 : tie.Need-returns-3
 returns-3 c next =
-    let a = c .before .before .before .before .before .args in
-    let b = c .before .block-bytes in
-    not-whole (a .mode) (a .size) (a .scheme .now) next (omega arith) (part-by (a .size) (b .result) (blockBytes (a .mode)) (b .ensures) (c .if3 .taken))
+    let a = first (c .before) .args in
+    not-whole (a .mode) (a .size) (a .scheme .now) next (omega arith)
+    (λ w. c .if3 .taken (ap (λ (n : ℕ). a .size % n) (c .before .block-bytes .ensures) ∙ w))
 
 returns-4 : tie.Need-returns-4
 returns-4 c next =
-    let a = c .before .before .before .before .before .before .args in
-    let b = c .before .before .block-bytes in
-    let w = whole-by (a .size) (b .result) (blockBytes (a .mode)) (b .ensures) (c .before .if3 .left) in
-    other-length (a .mode) (a .size) (a .scheme .now) next (omega arith) (omega arith) w (c .if4 .taken)
-
-bad-entry-requires : tie.Need-bad-entry-requires
-bad-entry-requires c κs = search needs
+    let a = first (c .before .before) .args in
+    other-length (a .mode) (a .size) (a .scheme .now) next (omega arith) (omega arith) (whole (c .before)) (c .if4 .taken)
 
 returns-5 : tie.Need-returns-5
 returns-5 c next =
-    let a = c .before .before .before .before .before .before .before .before .args in
-    let b = c .before .before .before .before .block-bytes in
-    let w = whole-by (a .size) (b .result) (blockBytes (a .mode)) (b .ensures) (c .before .before .before .if3 .left) in
+    let a = second (c .before .before) .args in
     let e = c .before .bad-entry .ensures in
-    some-bad (a .mode) (a .size) (a .scheme .now) next (omega arith) (omega arith) w (omega arith) (omega arith) ∙ ap (fails 5) (sym e)
+    some-bad (a .mode) (a .size) (a .scheme .now) next (omega arith) (omega arith) (whole (c .before .before .before)) (omega arith) (omega arith)
+    ∙ ap (fails 5) (sym e)
+
+div-blocks : tie.Need-div-blocks
+div-blocks c = omega (arith, block-bytes-pos (fifth (c .before) .args .mode))
 
 symbols-requires : tie.Need-symbols-requires
-symbols-requires c κs = scheme-by (c .before .before .before .before .before .before .before .before .args .scheme .now) (omega arith) (omega arith)
+symbols-requires c κs =
+    let s = good (c .before .before) in
+    (omega (arith, summed c, sum-least s), omega (arith, summed c, sum-most s))
 
 returns-6 : tie.Need-returns-6
 returns-6 c next =
-    let a = c .before .before .before .before .before .before .before .before .before .before .args in
-    let b = c .before .before .before .before .before .before .block-bytes in
-    let w = whole-by (a .size) (b .result) (blockBytes (a .mode)) (b .ensures) (c .before .before .before .before .before .if3 .left) in
-    let s = c .before .symbols in
-    let m = many-by (s .result) (symbolsFor (a .mode) (a .size) (a .scheme .now)) (s .ensures) (omega arith) in
-    too-many (a .mode) (a .size) (a .scheme .now) next (omega arith) (omega arith) w (omega arith) (omega arith) m
+    let a = fifth (sixth (c .before)) .args in
+    let n = symbolsFor (a .mode) (a .size) (a .scheme .now) in
+    too-many (a .mode) (a .size) (a .scheme .now) next (omega arith) (omega arith) (whole (sixth (c .before) .before .before .before)) (omega arith)
+    (omega arith) (omega (arith, counted (c .before), min-le-left n 257))
 
 returns-7 : tie.Need-returns-7
 returns-7 c =
-    let a = c .before .before .before .before .before .before .before .before .before .before .args in
-    let b = c .before .before .before .before .before .before .block-bytes in
-    let s = c .before .symbols in
-    let few = few-by (s .result) (symbolsFor (a .mode) (a .size) (a .scheme .now)) (s .ensures) (omega arith) in (
+    let k = c .before in
+    let a = fifth (sixth k) .args in
+    let n = symbolsFor (a .mode) (a .size) (a .scheme .now) in
+    let few : n ≤ 256 = omega (arith, counted k) in
+    let symbols : k .symbols .result ≡ n = counted k ∙ min-eq-left (omega (arith, few)) in
+    let blocks : a .size / k .before .before .block-bytes2 .result ≡ blocksIn (a .mode) (a .size)
+    = ap (λ (bytes : ℕ). a .size / bytes) (k .before .before .block-bytes2 .ensures) in
+    let sum = summed (k .before) in (
       record {
         known = omega arith;
         some = omega arith;
-        whole = whole-by (a .size) (b .result) (blockBytes (a .mode)) (b .ensures) (c .before .before .before .before .before .if3 .left);
-        entries = scheme-by (a .scheme .now) (omega arith) (omega arith);
+        whole = whole (sixth k .before .before .before);
+        entries = good (sixth k);
         few = few;
       },
-      s .ensures ∙ min-eq-left (omega (arith, few)),
+      cc (symbols, blocks, sum),
     )
 
 pub judged-spec : {M : Type 1} → statement M
@@ -108,12 +117,15 @@ judged-spec =
     (tie.spec
     returns
     returns-2
-    block-bytes-requires
+    (λ c κs. search needs)
     rem-if3
     returns-3
     returns-4
-    bad-entry-requires
+    (λ c κs. search needs)
     returns-5
+    (λ c κs. search needs)
+    div-blocks
+    (λ c κs. search needs)
     symbols-requires
     returns-6
     returns-7)

@@ -26,20 +26,11 @@ returns c =
     let l = c .before .before .loop in
     l .inv .2 ∙ ap (λ (n : ℕ). sumOf (take n (c .before .before .before .args .scheme .now))) (c .if1 .taken)
 
-shared-slice-read-n : tie.Need-shared-slice-read-n Inv-loop μ-loop
-shared-slice-read-n c = search needs
-
 cast-n : tie.Need-cast-n Inv-loop μ-loop
 cast-n c = omega (arith, c .shared-slice-known .given (c .before .before .before .loop .i))
 
 add-n : tie.Need-add-n Inv-loop μ-loop
 add-n c = omega (arith, c .shared-slice-known .given (c .before .before .before .loop .i))
-
-add-i : tie.Need-add-i Inv-loop μ-loop
-add-i c = search needs
-
-loop-less : tie.Need-loop-less Inv-loop μ-loop
-loop-less c = search needs
 
 loop-again : tie.Need-loop-again Inv-loop μ-loop
 loop-again c =
@@ -63,10 +54,10 @@ sum-spec =
     μ-loop
     loop-holds
     returns
-    shared-slice-read-n
+    (λ c. search needs)
     cast-n
     add-n
-    add-i
-    loop-less
+    (λ c. search needs)
+    (λ c. search needs)
     loop-again
     returns-2)

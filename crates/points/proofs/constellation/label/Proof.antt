@@ -8,15 +8,6 @@ use Rattle.points.proofs.Lending.{label-ours}
 use Rattle.points.proofs.constellation.label.Statement.{statement}
 use Rattle.points.proofs.constellation.label.Tie as tie
 
-cells-requires : tie.Need-cells-requires
-cells-requires c κs = search needs
-
-quadrants-requires : tie.Need-quadrants-requires
-quadrants-requires c κs = search needs
-
-label-in-requires : tie.Need-label-in-requires
-label-in-requires c κs = search needs
-
 returns : tie.Need-returns
 returns c =
     let t = c .before .before .before in
@@ -27,4 +18,4 @@ returns c =
     answer ∙ label-ours (s .args .bits) (s .args .i) (s .args .q)
 
 pub label-spec : {M : Type 1} → statement M
-label-spec = tie.close (tie.spec cells-requires quadrants-requires label-in-requires returns)
+label-spec = tie.close (tie.spec (λ c κs. search needs) (λ c κs. search needs) (λ c κs. search needs) returns)

@@ -16,21 +16,6 @@ returns-2 : tie.Need-returns-2
 unfolding labelIn
 returns-2 c = rw (too-many _ (c .before .before .args .bits) _ (c .if2 .taken))
 
-apart-requires : tie.Need-apart-requires
-apart-requires c κs = search needs
-
-apart-requires-2 : tie.Need-apart-requires-2
-apart-requires-2 c κs = search needs
-
-guess-in-requires : tie.Need-guess-in-requires
-guess-in-requires c κs = search needs
-
-point-in-requires : tie.Need-point-in-requires
-point-in-requires c κs = search needs
-
-confirmed-requires : tie.Need-confirmed-requires
-confirmed-requires c κs = search needs
-
 returns-3 : tie.Need-returns-3
 unfolding labelIn
 returns-3 c =
@@ -43,4 +28,4 @@ returns-3 c =
 
 pub label-in-spec : {M : Type 1} → statement M
 label-in-spec =
-    tie.close (tie.spec returns returns-2 apart-requires apart-requires-2 guess-in-requires point-in-requires confirmed-requires returns-3)
+    tie.close (tie.spec returns returns-2 (λ c κs. search needs) (λ c κs. search needs) (λ c κs. search needs) (λ c κs. search needs) (λ c κs. search needs) returns-3)

@@ -6,16 +6,10 @@ use Rattle.points.proofs.Lending.{point-ours}
 use Rattle.points.proofs.constellation.point.Statement.{statement}
 use Rattle.points.proofs.constellation.point.Tie as tie
 
-cells-requires : tie.Need-cells-requires
-cells-requires c κs = search needs
-
-point-in-requires : tie.Need-point-in-requires
-point-in-requires c κs = search needs
-
 returns : tie.Need-returns
 returns c =
     let s = c .before .before .before in
     rw (c .before .before .cells .ensures) at (c .point-in .ensures) ∙ point-ours (s .args .bits) (s .args .label)
 
 pub point-spec : {M : Type 1} → statement M
-point-spec = tie.close (tie.spec cells-requires point-in-requires returns)
+point-spec = tie.close (tie.spec (λ c κs. search needs) (λ c κs. search needs) returns)

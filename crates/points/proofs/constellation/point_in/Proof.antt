@@ -14,19 +14,13 @@ returns c = sym (too-few _ _ _ (c .if1 .taken))
 returns-2 : tie.Need-returns-2
 returns-2 c = sym (too-many _ _ _ (c .if2 .taken))
 
-point-requires : tie.Need-point-requires
-point-requires c κs = search needs
-
 returns-3 : tie.Need-returns-3
 unfolding pointIn
 returns-3 c = rw (eq-eqb _ 3 (c .before .if3 .taken)) (c .point .ensures)
-
-point-in-requires : tie.Need-point-in-requires
-point-in-requires c κs = search needs
 
 returns-4 : tie.Need-returns-4
 unfolding pointIn
 returns-4 c = rw (ne-eqb _ 3 (c .before .if3 .left)) (c .point-in .ensures)
 
 pub point-in-spec : {M : Type 1} → statement M
-point-in-spec = tie.close (tie.spec returns returns-2 point-requires returns-3 point-in-requires returns-4)
+point-in-spec = tie.close (tie.spec returns returns-2 (λ c κs. search needs) returns-3 (λ c κs. search needs) returns-4)

@@ -8,21 +8,6 @@ use Rattle.points.proofs.Turns.{phase-again}
 use Rattle.points.proofs.dqpsk.phase.Statement.{statement}
 use Rattle.points.proofs.dqpsk.phase.Tie as tie
 
-apart-requires : tie.Need-apart-requires
-apart-requires c κs = search needs
-
-apart-requires-2 : tie.Need-apart-requires-2
-apart-requires-2 c κs = search needs
-
-guess-requires : tie.Need-guess-requires
-guess-requires c κs = search needs
-
-point-requires : tie.Need-point-requires
-point-requires c κs = search needs
-
-confirmed-requires : tie.Need-confirmed-requires
-confirmed-requires c κs = search needs
-
 returns : tie.Need-returns
 returns c =
     let g = c .before .before in
@@ -34,4 +19,4 @@ returns c =
 
 pub phase-spec : {M : Type 1} → statement M
 phase-spec =
-    tie.close (tie.spec apart-requires apart-requires-2 guess-requires point-requires confirmed-requires returns)
+    tie.close (tie.spec (λ c κs. search needs) (λ c κs. search needs) (λ c κs. search needs) (λ c κs. search needs) (λ c κs. search needs) returns)

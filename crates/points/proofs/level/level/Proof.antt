@@ -21,20 +21,8 @@ negated c =
 negated-fits : (c : tie.Else1) → SFits w16 (negsuc (2 * c .before .args .h))
 negated-fits c = record { sfits = omega arith }
 
-mul-twice : tie.Need-mul-twice
-mul-twice c = search needs
-
-add-result : tie.Need-add-result
-add-result c = search needs
-
-cast-result : tie.Need-cast-result
-cast-result c = search needs
-
 returns : tie.Need-returns
 returns c = rw (eq-eqb (c .before .args .sign) 0 (c .if1 .taken)) (toZ-pos w16 _ (omega arith))
-
-cast-result-2 : tie.Need-cast-result-2
-cast-result-2 c = search needs
 
 sub-result : tie.Need-sub-result
 sub-result c = rw (negated c) (negated-fits c)
@@ -45,4 +33,4 @@ returns-2 c =
 
 pub level-spec : {M : Type 1} → statement M
 level-spec =
-    tie.close (tie.spec mul-twice add-result cast-result returns cast-result-2 sub-result returns-2)
+    tie.close (tie.spec (λ c. search needs) (λ c. search needs) (λ c. search needs) returns (λ c. search needs) sub-result returns-2)

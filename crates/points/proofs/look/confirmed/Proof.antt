@@ -13,9 +13,6 @@ told c =
     let s = c .before in
     rw (toZ-ofZ w16 (s .args .i) (s .fits .i), toZ-ofZ w16 (s .args .q) (s .fits .q)) at (c .is-at .ensures)
 
-is-at-requires : tie.Need-is-at-requires
-is-at-requires c κs = search needs
-
 returns : tie.Need-returns
 returns c = rw (sym (told (c .before)) ∙ c .if1 .taken)
 
@@ -23,4 +20,4 @@ returns-2 : tie.Need-returns-2
 returns-2 c = rw (sym (told (c .before)) ∙ c .if1 .left)
 
 pub confirmed-spec : {M : Type 1} → statement M
-confirmed-spec = tie.close (tie.spec is-at-requires returns returns-2)
+confirmed-spec = tie.close (tie.spec (λ c κs. search needs) returns returns-2)

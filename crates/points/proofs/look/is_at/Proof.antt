@@ -32,31 +32,16 @@ same-q c =
     rw (toZ-ofZ w16 (y k) (record { sfits = k .known-told .given .1 .0 .1 }), toZ-ofZ w16 (s .args .q) (s .fits .q))
     at (c .same2 .ensures)
 
-enum-known-there : tie.Need-enum-known-there
-enum-known-there c = search needs
-
-same-requires : tie.Need-same-requires
-same-requires c κs = search needs
-
-same-requires-2 : tie.Need-same-requires-2
-same-requires-2 c κs = search needs
-
 returns : tie.Need-returns
 unfolding x y
 returns c =
     let k = c .before .before .before in
     rw (k .before .there .given .1, sym (same-i (c .before .before)) ∙ c .before .if1 .taken) (same-q c)
 
-enum-told : tie.Need-enum-told
-enum-told c = search needs
-
 returns-2 : tie.Need-returns-2
 unfolding x
 returns-2 c = rw (c .before .before .before .there .given .1, sym (same-i (c .before)) ∙ c .if1 .left)
 
-returns-3 : tie.Need-returns-3
-returns-3 c = search needs
-
 pub is-at-spec : {M : Type 1} → statement M
 is-at-spec =
-    tie.close (tie.spec enum-known-there same-requires same-requires-2 returns enum-told returns-2 returns-3)
+    tie.close (tie.spec (λ c. search needs) (λ c κs. search needs) (λ c κs. search needs) returns (λ c. search needs) returns-2 (λ c. search needs))

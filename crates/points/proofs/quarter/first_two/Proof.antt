@@ -13,12 +13,6 @@ small : (c : tie.After-struct-known2) →
     c .before .before .args .quarter * signsOf (c .before .before .args .i) (c .before .before .args .q) ≤ 768
 small c = mul-le-mul {n₂ = 256} {m₂ = 3} (c .before .before .pre) (omega arith)
 
-mul-result : tie.Need-mul-result
-mul-result c = search needs
-
-add-result : tie.Need-add-result
-add-result c = search needs
-
 mul-result-2 : tie.Need-mul-result-2
 mul-result-2 c = omega (arith, small c)
 
@@ -26,4 +20,4 @@ returns : tie.Need-returns
 returns c = (refl, small c)
 
 pub first-two-spec : {M : Type 1} → statement M
-first-two-spec = tie.close (tie.spec mul-result add-result mul-result-2 returns)
+first-two-spec = tie.close (tie.spec (λ c. search needs) (λ c. search needs) mul-result-2 returns)

@@ -8,32 +8,14 @@ use borrow.Author.Tests.{lt-ltb, le-ltb}
 use Rattle.points.proofs.quarter.point_in.Statement.{statement}
 use Rattle.points.proofs.quarter.point_in.Tie as tie
 
-size-requires : tie.Need-size-requires
-size-requires c κs = search needs
-
-mul-if1 : tie.Need-mul-if1
-mul-if1 c = search needs
-
 returns : tie.Need-returns
 returns c = rw (← c .before .size .ensures .0, le-ltb (c .before .before .args .label) _ (c .if1 .taken))
-
-div-signed : tie.Need-div-signed
-div-signed c = search needs
-
-rem-cell-in : tie.Need-rem-cell-in
-rem-cell-in c = search needs
 
 add-cell-in : tie.Need-add-cell-in
 add-cell-in c =
     let q = c .before .size .result in
     let some : 0 < q = omega arith in
     omega (arith, mod-lt (c .before .before .args .label) some)
-
-cell-in-requires : tie.Need-cell-in-requires
-cell-in-requires c κs = search needs
-
-signed-requires : tie.Need-signed-requires
-signed-requires c κs = search needs
 
 returns-2 : tie.Need-returns-2
 returns-2 c =
@@ -42,4 +24,4 @@ returns-2 c =
     rw (← k .before .size .ensures .0, within, ← c .before .cell-in .ensures) (c .signed .ensures)
 
 pub point-in-spec : {M : Type 1} → statement M
-point-in-spec = tie.close (tie.spec size-requires mul-if1 returns div-signed rem-cell-in add-cell-in cell-in-requires signed-requires returns-2)
+point-in-spec = tie.close (tie.spec (λ c κs. search needs) (λ c. search needs) returns (λ c. search needs) (λ c. search needs) add-cell-in (λ c κs. search needs) (λ c κs. search needs) returns-2)

@@ -11,15 +11,6 @@ use Rattle.points.specs.Lent.{quarterOf}
 use Rattle.points.proofs.quarter.size.Statement.{statement}
 use Rattle.points.proofs.quarter.size.Tie as tie
 
-sub-result : tie.Need-sub-result
-sub-result c = search needs
-
-cast-result : tie.Need-cast-result
-cast-result c = search needs
-
-shl-result : tie.Need-shl-result
-shl-result c = search needs
-
 returns : tie.Need-returns
 unfolding quarterOf
 returns c =
@@ -29,4 +20,4 @@ returns c =
     rw whole (rw (le-leb 2 n (c .pre .0), le-leb n 10 (c .pre .1)), small)
 
 pub size-spec : {M : Type 1} → statement M
-size-spec = tie.close (tie.spec sub-result cast-result shl-result returns)
+size-spec = tie.close (tie.spec (λ c. search needs) (λ c. search needs) (λ c. search needs) returns)

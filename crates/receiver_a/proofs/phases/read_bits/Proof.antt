@@ -1,161 +1,129 @@
--- `receiver_a::phases::read_bits` meets its contract: the bits written so far, then those of the points that are left.
+-- `receiver_a::phases::read_bits` meets its contract: the points read so far are legal; their bits are written, and those of the points left follow.
 -- Assumes nothing.
 use mathlib.Core.Path.{_≡_, refl, sym, ap, _∙_}
+use mathlib.Core.Bool.{Bool, true, false}
 use mathlib.Core.List.{List, [], _∷_, _++_, append-nil, append-assoc}
 use Prim.Native.Nat.{ℕ, suc, _+_, _-_, _*_, _/_, _%_, _≤_, _<_}
 use native.Mathlib.Omega.{arith}
 use native.Mathlib.Numerals.{add-one}
-use lib.IntN.{ℤ, pos}
-use lib.ListN.{length, getD, set, take, length-set}
-use lib.Seq.{take-all, take-suc-set}
+use lib.IntN.{pos}
+use lib.ListN.{length, getD, set, take, drop, length-set, drop-of-length-le}
+use lib.Seq.{take-all, take-suc-set, drop-cons}
 use mir.Syntax.{w16}
 use mir.ValLaws.{toZ-ofZ}
-use Rattle.points.specs.Constellations.{labelNumber}
-use Rattle.points.specs.Dqpsk.{phaseOf, dibitTo, dibitsFrom}
-use Rattle.points.specs.Grid.{placeOf}
-use Rattle.payload.specs.Grids.{pointAt, pointsFrom}
-use Rattle.receiver_a.specs.Phases.{phaseLast}
-use Rattle.payload.proofs.Indices.{place-lt}
+use Rattle.ground.proofs.Firsts.{first-here, first-later, first-end}
+use Rattle.points.specs.declared.Point.{Point}
+use Rattle.points.specs.declared.Point.the-variants.{Nothing}
+use Rattle.points.specs.Constellations.{levelI, levelQ, labelNumber, isStray}
+use Rattle.points.specs.Dqpsk.{phaseOf, phaseAt, dibitTo, dibitsFrom, strayAt}
+use Rattle.symbols.specs.Grid.{carrierOf}
+use Rattle.symbols.specs.Grids.{pointAt, pointsFrom}
+use Rattle.receiver_a.specs.Phases.{phaseLast, Reads}
+use Rattle.symbols.proofs.Indices.{place-lt}
+use Rattle.symbols.proofs.Readings.{length-points, points-at}
 use borrow.Author.Needs.{needs}
 use Rattle.receiver_a.proofs.phases.read_bits.Statement.{statement}
 use Rattle.receiver_a.proofs.phases.read_bits.Tie as tie
 
 -- two more bits are written
-take-two : (bits : List ℕ) (s a b : ℕ) → 2 * s + 1 < length bits → take (2 * (s + 1)) (set (set bits (2 * s) a) (2 * s + 1) b) ≡ take (2 * s) bits ++ (a ∷ (b ∷ []))
+take-two : (bits : List ℕ) (s a b : ℕ) → 2 * s + 1 < length bits
+    → take (2 * (s + 1)) (set (set bits (2 * s) a) (2 * s + 1) b) ≡ take (2 * s) bits ++ (a ∷ (b ∷ []))
 take-two bits s a b h =
     let both : 2 * (s + 1) ≡ suc (2 * s + 1) = omega arith in
     rw (both, take-suc-set (set bits (2 * s) a) (2 * s + 1) b (simp length-set h), add-one (2 * s), take-suc-set bits (2 * s) a (omega arith), append-assoc)
 
--- the phase of the point s
-abbrev phaseHeld : List ℤ → List ℤ → ℕ → ℕ
-phaseHeld is qs s = labelNumber (phaseOf (getD is (placeOf s) (pos 0)) (getD qs (placeOf s) (pos 0)))
+-- whether a point is stray
+abbrev straying : Point → Bool
+straying p = isStray (phaseOf (levelI p) (levelQ p))
 
--- a turn: one more point
-module _ (is qs : List ℤ) (last s n to : ℕ) (h : s < n) (e : to ≡ phaseHeld is qs (s + 1)) where
-  one : pointsFrom is qs (s + 1) (n - s) ≡ pointAt is qs (placeOf (s + 1)) ∷ pointsFrom is qs (s + 1 + 1) (n - (s + 1))
-  unfolding pointsFrom
-  one =
-      let left : n - s ≡ suc (n - (s + 1)) = omega arith in
-      rw (left, add-one (s + 1))
+-- s points are read, and legal: their bits are written, and those of the points left follow, from the phase of the last
+record Begun (phase : ℕ) (ps : List Point) (bits : List ℕ) (last s : ℕ) : Type 0 where
+  long : length bits ≡ 2 * length ps
+  legal : s ≤ strayAt ps
+  on : take (2 * s) bits ++ dibitsFrom last (drop s ps) ≡ dibitsFrom phase ps
+  carried : phaseLast last (drop s ps) ≡ phaseLast phase ps
 
-  next-phase : phaseLast to (pointsFrom is qs (s + 1 + 1) (n - (s + 1))) ≡ phaseLast last (pointsFrom is qs (s + 1) (n - s))
-  unfolding phaseLast
-  next-phase = rw (one, e)
+module _ {phase : ℕ} {ps : List Point} {bits : List ℕ} {last s : ℕ} (begun : Begun phase ps bits last s) where
+  -- one more point
+  next : (to d : ℕ) → s < length ps → straying (getD ps s Nothing) ≡ false → to ≡ labelNumber (phaseAt ps s) → d ≡ dibitTo last to
+      → Begun phase ps (set (set bits (2 * s) (d / 2)) (2 * s + 1) (d % 2)) to (s + 1)
+  unfolding dibitsFrom phaseLast
+  next to d more ok et ed =
+      let one = drop-cons ps s Nothing more in
+      record {
+        long = simp length-set (begun .long);
+        legal = first-later straying Nothing ps s (begun .legal) more ok;
+        on = rw (take-two bits s (d / 2) (d % 2) (omega (arith, begun .long)), append-assoc, ed, et, add-one s) (rw one at (begun .on));
+        carried = rw (et, add-one s) (rw one at (begun .carried));
+      }
 
-  next-bits : (bits : List ℕ) (d : ℕ) → 2 * s + 1 < length bits → d ≡ dibitTo last to
-      → take (2 * (s + 1)) (set (set bits (2 * s) (d / 2)) (2 * s + 1) (d % 2)) ++ dibitsFrom to (pointsFrom is qs (s + 1 + 1) (n - (s + 1))) ≡ take (2 * s) bits ++ dibitsFrom last (pointsFrom is qs (s + 1) (n - s))
-  unfolding dibitsFrom
-  next-bits bits d l f = rw (one, sym e, sym f, take-two bits s (d / 2) (d % 2) l, append-assoc)
+  -- the point s is stray
+  broken : s < length ps → straying (getD ps s Nothing) ≡ true → Reads phase ps (record { stray = s; bits = bits; last = last })
+  broken more e =
+      let here = first-here straying Nothing ps s (begun .legal) e in
+      record { stray = here; bits = λ all. absurd (omega arith); last = λ all. absurd (omega arith) }
 
-module _ (is qs : List ℤ) (last s n : ℕ) (h : n ≤ s) where
-  none : pointsFrom is qs (s + 1) (n - s) ≡ []
-  unfolding pointsFrom
-  none =
-      let left : n - s ≡ 0 = omega arith in
-      rw left
-
-  all-bits : (bits : List ℕ) → length bits ≤ 2 * s → bits ≡ take (2 * s) bits ++ dibitsFrom last (pointsFrom is qs (s + 1) (n - s))
-  unfolding dibitsFrom
-  all-bits bits l = rw (none, take-all (2 * s) bits l) (sym (append-nil bits))
-
-  last-phase : last ≡ phaseLast last (pointsFrom is qs (s + 1) (n - s))
-  unfolding phaseLast
-  last-phase = rw none
+  -- all points are read
+  whole : length ps ≤ s → Reads phase ps (record { stray = s; bits = bits; last = last })
+  unfolding dibitsFrom phaseLast
+  whole l =
+      let none = drop-of-length-le ps l in
+      record {
+        stray = first-end straying Nothing ps s (begun .legal) l;
+        bits = λ _. rw (none, take-all (2 * s) bits (omega (arith, begun .long)), append-nil) at (begun .on);
+        last = λ _. rw none at (begun .carried);
+      }
 
 abbrev Inv-loop : tie.InvT-loop
-Inv-loop i q phase bits₀ last₀ s₀ bits last s =
-    (s ≤ 210) × (length bits ≡ 420)
-    × (take (2 * s) bits ++ dibitsFrom last (pointsFrom i q (s + 1) (210 - s)) ≡ dibitsFrom phase (pointsFrom i q 1 210))
-    × (phaseLast last (pointsFrom i q (s + 1) (210 - s)) ≡ phaseLast phase (pointsFrom i q 1 210))
+Inv-loop i q phase bits₀ last₀ s₀ bits last s = Begun phase (pointsFrom i q 1 210) bits last s
 
 abbrev μ-loop : tie.MeasureT-loop
 μ-loop i q phase bits₀ last₀ s₀ bits last s = 210 - s
 
--- the sub-carrier is one of the OFDM symbol
-low : (c : tie.After-place Inv-loop μ-loop) → c .place .result < 256
-low c = rw (c .place .ensures) (place-lt (c .before .before .loop .s + 1))
+-- the points
+abbrev points : tie.Start Inv-loop μ-loop → List Point
+points c = pointsFrom (c .args .i .now) (c .args .q .now) 1 210
 
--- the phase that is read is that of the next point
-seen : (c : tie.After-number Inv-loop μ-loop) → c .number .result ≡ phaseHeld (c .before .before .before .before .before .before .before .args .i .now) (c .before .before .before .before .before .before .before .args .q .now) (c .before .before .before .before .before .before .loop .s + 1)
+long : (c : tie.Start Inv-loop μ-loop) → length (points c) ≡ 210
+long c = length-points (c .args .i .now) (c .args .q .now) 1 210
+
+-- the sub-carrier is one of the OFDM symbol
+low : (c : tie.After-carrier-of Inv-loop μ-loop) → c .carrier-of .result < 256
+low c = rw (c .carrier-of .ensures) (place-lt (c .before .before .loop .s + 1))
+
+-- the label that is read is that of the next point
+seen : (c : tie.After-phase Inv-loop μ-loop)
+    → c .phase .result ≡ phaseAt (points (c .before .before .before .before .before .before)) (c .before .before .before .before .before .loop .s)
 seen c =
-    let k = c .before .before .before .before .place in
-    let s = c .before .before .before .before .before .before .before .args in
-    let phase = rw (
-      toZ-ofZ w16 (getD (s .i .now) (k .result) (pos 0)) (record { sfits = c .before .before .before .phase-arg .given }),
-      toZ-ofZ w16 (getD (s .q .now) (k .result) (pos 0)) (record { sfits = c .before .before .phase-arg2 .given }),
-      k .ensures,
-    ) at (c .before .phase .ensures) in
-    c .number .ensures ∙ ap labelNumber phase
+    let k = c .before .before .before .carrier-of in
+    let a = c .before .before .before .before .before .before .args in
+    let s = c .before .before .before .before .before .loop .s in
+    let at : getD (pointsFrom (a .i .now) (a .q .now) 1 210) s Nothing ≡ pointAt (a .i .now) (a .q .now) (k .result)
+    = points-at (a .i .now) (a .q .now) 1 210 s (omega arith) ∙ ap (pointAt (a .i .now) (a .q .now)) (ap carrierOf (omega arith) ∙ sym (k .ensures)) in
+    rw (
+      toZ-ofZ w16 (getD (a .i .now) (k .result) (pos 0)) (record { sfits = c .before .before .phase-arg .given }),
+      toZ-ofZ w16 (getD (a .q .now) (k .result) (pos 0)) (record { sfits = c .before .phase-arg2 .given }),
+    ) at (c .phase .ensures)
+    ∙ sym (ap (λ (p : Point). phaseOf (levelI p) (levelQ p)) at)
 
 loop-holds : tie.Need-loop-holds Inv-loop μ-loop
-loop-holds c = (omega arith, refl, refl, refl)
-
-add-place : tie.Need-add-place Inv-loop μ-loop
-add-place c = search needs
-
-place-requires : tie.Need-place-requires Inv-loop μ-loop
-place-requires c κs = search needs
-
-mul-phase : tie.Need-mul-phase Inv-loop μ-loop
-mul-phase c = omega (arith, low c)
-
-shared-slice-copy-out-phase : tie.Need-shared-slice-copy-out-phase Inv-loop μ-loop
-shared-slice-copy-out-phase c = omega (arith, low c)
-
-mul-phase-2 : tie.Need-mul-phase-2 Inv-loop μ-loop
-mul-phase-2 c = omega (arith, low (c .before))
-
-shared-slice-copy-out-phase-2 : tie.Need-shared-slice-copy-out-phase-2 Inv-loop μ-loop
-shared-slice-copy-out-phase-2 c = omega (arith, low (c .before))
-
-phase-requires : tie.Need-phase-requires Inv-loop μ-loop
-phase-requires c κs = search needs
-
-number-requires : tie.Need-number-requires Inv-loop μ-loop
-number-requires c κs = search needs
-
-dibit-requires : tie.Need-dibit-requires Inv-loop μ-loop
-dibit-requires c κs = search needs
-
-mul-bits : tie.Need-mul-bits Inv-loop μ-loop
-mul-bits c = search needs
-
-array-write-bits : tie.Need-array-write-bits Inv-loop μ-loop
-array-write-bits c = search needs
-
-mul-bits-2 : tie.Need-mul-bits-2 Inv-loop μ-loop
-mul-bits-2 c = search needs
-
-add-bits : tie.Need-add-bits Inv-loop μ-loop
-add-bits c = search needs
-
-array-write-bits-2 : tie.Need-array-write-bits-2 Inv-loop μ-loop
-array-write-bits-2 c = search needs
-
-add-s : tie.Need-add-s Inv-loop μ-loop
-add-s c = search needs
-
-loop-less : tie.Need-loop-less Inv-loop μ-loop
-loop-less c = search needs
-
-loop-again : tie.Need-loop-again Inv-loop μ-loop
-loop-again c =
-    let l = c .before .before .before .before .before .before .before .loop in
-    let s = c .before .before .before .before .before .before .before .before .args in
-    let to = c .before .number .result in (
-      omega arith,
-      simp length-set (l .inv .1),
-      next-bits (s .i .now) (s .q .now) (l .last) (l .s) 210 to (omega arith) (seen (c .before)) (l .bits) (c .dibit .result) (omega arith) (c .dibit .ensures) ∙ l .inv .2,
-      next-phase (s .i .now) (s .q .now) (l .last) (l .s) 210 to (omega arith) (seen (c .before)) ∙ l .inv .3,
-    )
+loop-holds c = record { long = ap (λ (n : ℕ). 2 * n) (sym (long c)); legal = omega arith; on = refl; carried = refl }
 
 returns : tie.Need-returns Inv-loop μ-loop
 returns c =
-    let l = c .before .loop in
-    let s = c .before .before .args in
-    let bits = all-bits (s .i .now) (s .q .now) (l .last) (l .s) 210 (omega arith) (l .bits) (omega arith) ∙ l .inv .2 in
-    let last = last-phase (s .i .now) (s .q .now) (l .last) (l .s) 210 (omega arith) ∙ l .inv .3 in
-    cc (bits, last)
+    let l = c .before .before .before .before .before .before .before in
+    broken (l .loop .inv) (omega (arith, long (l .before))) (ap isStray (sym (seen (c .before .before))) ∙ sym (c .before .is-stray .ensures) ∙ c .if1 .taken)
+
+loop-again : tie.Need-loop-again Inv-loop μ-loop
+loop-again c =
+    let t = c .before .before .before in
+    let l = t .before .before .before .before .before .before in
+    next (l .loop .inv) (c .before .label-number .result) (c .dibit .result) (omega (arith, long (l .before)))
+    (ap isStray (sym (seen (t .before))) ∙ sym (t .is-stray .ensures) ∙ c .before .before .if1 .left)
+    (c .before .label-number .ensures ∙ ap labelNumber (seen (t .before))) (c .dibit .ensures)
+
+returns-2 : tie.Need-returns-2 Inv-loop μ-loop
+returns-2 c = whole (c .before .loop .inv) (omega (arith, long (c .before .before)))
 
 pub read-bits-spec : {M : Type 1} → statement M
 read-bits-spec =
@@ -164,21 +132,23 @@ read-bits-spec =
     Inv-loop
     μ-loop
     loop-holds
-    add-place
-    place-requires
-    mul-phase
-    shared-slice-copy-out-phase
-    mul-phase-2
-    shared-slice-copy-out-phase-2
-    phase-requires
-    number-requires
-    dibit-requires
-    mul-bits
-    array-write-bits
-    mul-bits-2
-    add-bits
-    array-write-bits-2
-    add-s
-    loop-less
+    (λ c. search needs)
+    (λ c κs. search needs)
+    (λ c. omega (arith, low c))
+    (λ c. omega (arith, low c))
+    (λ c. omega (arith, low (c .before)))
+    (λ c. omega (arith, low (c .before)))
+    (λ c κs. search needs)
+    (λ c κs. search needs)
+    returns
+    (λ c κs. search needs)
+    (λ c κs. search needs)
+    (λ c. search needs)
+    (λ c. search needs)
+    (λ c. search needs)
+    (λ c. search needs)
+    (λ c. search needs)
+    (λ c. search needs)
+    (λ c. search needs)
     loop-again
-    returns)
+    returns-2)

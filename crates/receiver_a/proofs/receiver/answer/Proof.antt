@@ -19,14 +19,8 @@ coded-requires c κs =
     let s = c .before .before .before in
     (s .pre .1, rw (coded-mode (c .before)) at (s .pre .2))
 
-same-length : tie.Need-same-length
-same-length c = search needs
-
 returns : tie.Need-returns
 returns c = rw (c .before .before .before .before .if1 .taken) (c .before .before .uncoded .ensures)
-
-same-length-2 : tie.Need-same-length-2
-same-length-2 c = search needs
 
 returns-2 : tie.Need-returns-2
 returns-2 c = rw (coded-mode (c .before .before .before .before)) (c .before .before .coded .ensures)
@@ -34,4 +28,4 @@ returns-2 c = rw (coded-mode (c .before .before .before .before)) (c .before .be
 pub answer-spec : {M : Type 1} → statement M
 answer-spec =
     tie.close
-    (tie.spec uncoded-requires coded-requires same-length returns same-length-2 returns-2)
+    (tie.spec uncoded-requires coded-requires (λ c. search needs) returns (λ c. search needs) returns-2)

@@ -1,124 +1,122 @@
--- `receiver_a::receiver::coded` meets its contract: a codeword for each half, and the frame of their information.
+-- `receiver_a::receiver::coded` meets its contract: a codeword for each row, and the frame of their information.
 -- Assumes nothing.
-use mathlib.Core.Path.{ap₂, _∙_}
-use mathlib.Core.List.{[], _++_}
-use Prim.Native.Nat.{_+_}
+use mathlib.Core.Path.{_≡_, ap₂, subst, _∙_}
+use mathlib.Core.List.{List, []}
+use Prim.Native.Nat.{ℕ, _+_}
 use native.Mathlib.Omega.{arith}
-use borrow.Author.Tests.{not-true, not-false}
-use lib.ListN.{getD, take}
+use lib.ListN.{getD}
 use lib.Seq.{length-take-le}
-use Rattle.bch.specs.Codes.{code3, Within}
-use Rattle.receiver_a.specs.HeldA.{Delivered}
-use Rattle.receiver_a.proofs.Halves.{joined-long, joined-bits}
-use Rattle.receiver_a.proofs.Rescues.{first-hopeless, second-hopeless, coded-settled}
+use Rattle.answers.specs.declared.Decoded.{Decoded}
+use Rattle.answers.specs.declared.Decoded.the-variants.{Accepted}
+use Rattle.receiver_a.proofs.Settling.{Mends, row-mended, both-long, both-bits, first-hopeless, second-hopeless, informing, coded-settled}
 use borrow.Author.Needs.{needs}
 use Rattle.receiver_a.proofs.receiver.coded.Statement.{statement}
 use Rattle.receiver_a.proofs.receiver.coded.Tie as tie
 
--- the first half has a codeword within 16, and the second
-first-within : (c : tie.Else1) → Within code3 (getD (c .before .before .before .before .before .args .t1) 0 []) (c .before .mended .result .codeword)
-first-within c = c .before .mended .ensures .within (not-false _ (c .if1 .left))
+-- back from where a row is decoded or found mended
+abbrev begin : tie.After-decode → tie.Start
+begin c = c .before .before .before .before .before .before
 
-second-within : (c : tie.Else2)
-    → Within code3 (getD (c .before .before .before .before .before .before .before .before .before .args .t1) 1 []) (c .before .mended2 .result .codeword)
-second-within c = c .before .mended2 .ensures .within (not-false _ (c .if2 .left))
+abbrev one : tie.After-decode2 → tie.After-in-first
+one c = c .before .before .before .before .before .before
 
-index-1-mended : tie.Need-index-1-mended
-index-1-mended c = search needs
+abbrev first : tie.After-in-first → tie.After-decode
+first c = c .before .before .before
 
-mended-requires : tie.Need-mended-requires
-mended-requires c κs = search needs
+abbrev second : tie.After-in-second → tie.After-decode2
+second c = c .before .before .before
+
+-- a row
+abbrev row : tie.Start → ℕ → List ℕ
+row s i = getD (s .args .t1) i []
+
+-- what decode says of a row
+first-mended : (c : tie.After-decode) (told : Decoded) → c .decode .result ≡ told → Mends (row (begin c) 0) (c .decode .last .1 .1 .0) told
+first-mended c told e =
+    let s = begin c in
+    let out = c .before .before .before .before .row in
+    subst (Mends (row s 0) (c .decode .last .1 .1 .0)) e
+    (row-mended (row s 0) (out .result) _ _ (s .pre .0 .first-bits) (s .pre .0 .first-long) (out .ensures) (c .decode .ensures))
+
+second-mended : (c : tie.After-decode2) (told : Decoded) → c .decode2 .result ≡ told
+    → Mends (row (begin (first (one c))) 1) (c .decode2 .last .1 .1 .0) told
+second-mended c told e =
+    let s = begin (first (one c)) in
+    let out = c .before .before .before .before .row2 in
+    subst (Mends (row s 1) (c .decode2 .last .1 .1 .0)) e
+    (row-mended (row s 1) (out .result) _ _ (s .pre .0 .second-bits) (s .pre .0 .second-long) (out .ensures) (c .decode2 .ensures))
+
+-- a codeword within 16 of it, and the count
+first-found : (c : tie.After-in-first) → Mends (row (begin (first c)) 0) (first c .decode .last .1 .1 .0) (Accepted (c .in-first .given .0 .0))
+first-found c = first-mended (first c) _ (c .in-first .given .1)
+
+second-found : (c : tie.After-in-second)
+    → Mends (row (begin (first (one (second c)))) 1) (second c .decode2 .last .1 .1 .0) (Accepted (c .in-second .given .0 .0))
+second-found c = second-mended (second c) _ (c .in-second .given .1)
 
 returns : tie.Need-returns
 returns c =
-    let start = c .before .before .before .before .before in
-    let rows = start .args .t1 in
-    first-hopeless (getD rows 0 []) (getD rows 1 []) (start .pre .0 .first-long) (start .args .area .now) (start .args .differing)
-    (c .before .mended .ensures .none (not-true _ (c .if1 .taken)))
-
-index-1-mended-2 : tie.Need-index-1-mended-2
-index-1-mended-2 c = search needs
-
-mended-requires-2 : tie.Need-mended-requires-2
-mended-requires-2 c κs = search needs
+    let d = c .before .before .before in
+    let s = begin d in
+    first-hopeless (s .pre .0) (s .args .area .now) (s .args .differing) (first-mended d _ (c .enum-told .given .1))
 
 returns-2 : tie.Need-returns-2
 returns-2 c =
-    let start = c .before .before .before .before .before .before .before .before .before in
-    let rows = start .args .t1 in
-    let one = c .before .before .before .before in
-    second-hopeless (getD rows 0 []) (getD rows 1 []) (start .pre .0 .first-long) (start .args .area .now) (start .args .differing)
-    (one .before .mended .result .codeword) (first-within one) (c .before .mended2 .ensures .none (not-true _ (c .if2 .taken)))
-
-information-requires : tie.Need-information-requires
-information-requires c κs = search needs
-
-slice-aggregate-deliver : tie.Need-slice-aggregate-deliver
-slice-aggregate-deliver c = search needs
-
-sub-deliver : tie.Need-sub-deliver
-sub-deliver c = search needs
-
-part-deliver-start : tie.Need-part-deliver-start
-part-deliver-start c = search needs
-
-part-deliver-end : tie.Need-part-deliver-end
-part-deliver-end c = search needs
+    let d = c .before .before .before in
+    let s = begin (first (one d)) in
+    second-hopeless (s .pre .0) (s .args .area .now) (s .args .differing) (first-found (one d) .0) (second-mended d _ (c .enum-told2 .given .1))
 
 deliver-requires : tie.Need-deliver-requires
 deliver-requires c κs =
-    let both = c .before .before .before .before .before .before .before .before .before in
-    let one = both .before .before .before .before in
-    let start = one .before .before .before .before .before in
-    let v = first-within one .codeword in
-    let w = second-within both .codeword in
-    let l = length-take-le 58 (start .args .area .now) (start .pre .1) in
-    rw (c .before .before .information .ensures) (joined-bits v w, joined-long v w ∙ omega arith)
+    let two = c .before .before .before .before .before .before in
+    let s = begin (first (one (second two))) in
+    let both = informing (s .pre .0) (s .args .area .now) 0 (first-found (one (second two)) .0) (second-found two .0) in
+    let l = length-take-le 58 (s .args .area .now) (s .pre .1) in
+    rw (c .before .before .information .ensures) (both-bits both, both-long both ∙ omega arith)
 
 add-settled : tie.Need-add-settled
-add-settled c = search needs
-
-settled-requires : tie.Need-settled-requires
-settled-requires c κs = search needs
-
-same-length : tie.Need-same-length
-same-length c = search needs
+add-settled c =
+    let two = c .before .before .before .before .before .before .before .before .before .before in
+    omega (arith, first-found (one (second two)) .0 .near, first-found (one (second two)) .1, second-found two .0 .near, second-found two .1)
 
 returns-3 : tie.Need-returns-3
 returns-3 c =
-    let both = c .before .before .before .before .before .before .before .before .before .before .before .before .before .before in
-    let one = both .before .before .before .before in
-    let start = one .before .before .before .before .before in
-    let rows = start .args .t1 in
-    let area = start .args .area .now in
-    let first = one .before .mended in
-    let second = both .before .mended2 in
-    let count = ap₂ _+_ (first .ensures .count (not-false _ (one .if1 .left))) (second .ensures .count (not-false _ (both .if2 .left))) in
-    let deliver = c .before .before .before .before .deliver in
-    let part = deliver .last .1 .0 in
-    let sent : Delivered (take 248 (first .result .codeword) ++ take 248 (second .result .codeword)) (take 58 area) (deliver .result) part
-    = rw (c .before .before .before .before .before .before .before .information .ensures) at (deliver .ensures) in
-    rw (c .settled .ensures) (coded-settled (getD rows 0 []) (getD rows 1 []) (start .pre .0 .first-long) (first .result .codeword) (second .result .codeword)
-    (first-within one) (second-within both) area (start .args .differing) (first .result .count + second .result .count) part (start .pre .0 .second-long)
-    (deliver .result) count (start .pre .1) sent)
+    let two = c .before .before .before .before .before .before .before .before .before .before .before in
+    let d = c .before .before .before .before .deliver in
+    let v = first-found (one (second two)) in
+    let w = second-found two in
+    let s = begin (first (one (second two))) in
+    rw (c .settled .ensures) (coded-settled (s .pre .0) (s .args .area .now) (s .args .differing) (v .0) (w .0)
+    (one (second two) .in-first .given .0 .0 + two .in-second .given .0 .0) (d .last .1 .0) (d .result) (ap₂ _+_ (v .1) (w .1)) (s .pre .1)
+    (rw (c .before .before .before .before .before .before .before .information .ensures) at (d .ensures)))
 
 pub coded-spec : {M : Type 1} → statement M
 coded-spec =
     tie.close
     (tie.spec
-    index-1-mended
-    mended-requires
+    (λ c κs. search needs)
+    (λ c. search needs)
+    (λ c. search needs)
+    (λ c κs. search needs)
+    (λ c. search needs)
+    (λ c. search needs)
     returns
-    index-1-mended-2
-    mended-requires-2
+    (λ c κs. search needs)
+    (λ c. search needs)
+    (λ c. search needs)
+    (λ c κs. search needs)
+    (λ c. search needs)
+    (λ c. search needs)
     returns-2
-    information-requires
-    slice-aggregate-deliver
-    sub-deliver
-    part-deliver-start
-    part-deliver-end
+    (λ c. search needs)
+    (λ c. search needs)
+    (λ c κs. search needs)
+    (λ c. search needs)
+    (λ c. search needs)
+    (λ c. search needs)
+    (λ c. search needs)
     deliver-requires
     add-settled
-    settled-requires
-    same-length
+    (λ c κs. search needs)
+    (λ c. search needs)
     returns-3)

@@ -1,128 +1,109 @@
 -- `receiver_a::receiver::deliver` meets its contract: a frame is written exactly where the check is right.
 -- Assumes nothing.
-use mathlib.Core.Path.{_≡_}
-use Prim.Native.Nat.{_-_, _*_}
+use mathlib.Core.Path.{_≡_, refl, ap, _∙_}
+use mathlib.Core.List.{List}
+use Prim.Native.Nat.{ℕ, _-_, _*_}
 use native.Mathlib.Omega.{arith}
-use lib.ListN.{length, take}
-use Rattle.payload.proofs.Octets.{bytes-from, bytes-there}
+use lib.ListN.{length, take, drop, length-drop, take-append-drop}
+use lib.Seq.{take-all}
+use Rattle.bits.specs.Words.{Bits}
+use Rattle.bits.proofs.Copies.{part-long}
+use Rattle.bits.proofs.Digits.{bits-take, bits-drop}
+use Rattle.bits.proofs.Octets.{bytes-from, bytes-there, length-bitsOf}
+use Rattle.payload.specs.Scrambler.{start}
+use Rattle.payload.proofs.Scrambling.{length-scrambled, bits-scrambled}
 use Rattle.payload_a.proofs.Checks.{check-read}
-use Rattle.receiver_a.proofs.Deliveries.{message-bits, message-long, compared-bits, compared-long, right-delivered, wrong-not-delivered}
+use Rattle.receiver_a.proofs.Deliveries.{Parted, right-check, wrong-check}
 use borrow.Author.Needs.{needs}
 use Rattle.receiver_a.proofs.receiver.deliver.Statement.{statement}
 use Rattle.receiver_a.proofs.receiver.deliver.Tie as tie
 
-mul-n : tie.Need-mul-n
-mul-n c = search needs
+-- where the bits are unscrambled
+abbrev begin : tie.After-scramble → tie.Start
+begin c = c .before .before .before .before
 
-scramble-requires : tie.Need-scramble-requires
-scramble-requires c κs = search needs
+abbrev held : tie.After-scramble → List ℕ
+held c = c .scramble .last .1 .0
 
-sub-check-of : tie.Need-sub-check-of
-sub-check-of c = search needs
+-- a part of them
+held-long : (c : tie.After-scramble) → length (held c) ≡ length (begin c .args .bits .now)
+held-long c = ap length (c .scramble .ensures .0) ∙ length-scrambled start (begin c .args .bits .now)
 
-part-check-of-start : tie.Need-part-check-of-start
-part-check-of-start c = search needs
+part-bits : (c : tie.After-scramble) (at n : ℕ) → Bits (take n (drop at (held c)))
+part-bits c at n =
+    bits-take n (drop at (held c)) (bits-drop at (held c) (rw (c .scramble .ensures .0) (bits-scrambled start (begin c .args .bits .now) (begin c .pre .0))))
 
-part-check-of-end : tie.Need-part-check-of-end
-part-check-of-end c = search needs
+-- where the check is formed: the message, and the rest
+abbrev unscrambled : tie.After-check-of → tie.After-scramble
+unscrambled c = c .before .before .before .before .before
 
-check-of-requires : tie.Need-check-of-requires
-check-of-requires c κs = search needs
+abbrev size : tie.After-check-of → ℕ
+size c = length (begin (unscrambled c) .args .area .now) * 8
 
-sub-is-check : tie.Need-sub-is-check
-sub-is-check c = search needs
+abbrev message : tie.After-check-of → List ℕ
+message c = take (size c - 0) (held (unscrambled c))
 
-part-is-check-start : tie.Need-part-is-check-start
-part-is-check-start c = search needs
+message-long : (c : tie.After-check-of) → length (message c) ≡ size c
+message-long c = part-long 0 (size c - 0) (held (unscrambled c)) (omega (arith, held-long (unscrambled c))) ∙ omega arith
 
-part-is-check-end : tie.Need-part-is-check-end
-part-is-check-end c = search needs
+abbrev left : tie.After-check-of → ℕ
+left c = length (begin (unscrambled c) .args .bits .now) - size c
+
+parted : (c : tie.After-check-of)
+    → Parted (begin (unscrambled c) .args .bits .now) (message c) (take (left c) (drop (size c) (held (unscrambled c)))) (c .check-of .result)
+parted c =
+    let u = unscrambled c in
+    let n = size c in
+    let front : n - 0 ≡ n = omega arith in
+    let all = take-all (left c) (drop n (held u)) (rw length-drop (omega (arith, held-long u))) in
+    record {
+      whole = rw (front, all) (take-append-drop n (held u) ∙ u .scramble .ensures .0);
+      formed = check-read (message c) (c .check-of .result) (part-bits u 0 (n - 0)) (c .check-of .ensures);
+    }
 
 is-check-requires : tie.Need-is-check-requires
 is-check-requires c κs =
-    let c0 = c .before .before .before .before .before .before .before in
-    let s = c0 .before .before .before .before in
-    let bits = s .args .bits .now in
-    let m = c0 .scramble .last .1 .0 in
-    let n = length (s .args .area .now) * 8 in
-    let k = length bits - n in
-    let long = compared-long bits m (c0 .scramble .ensures .0) n k (omega arith) in
-    (compared-bits bits m (c0 .scramble .ensures .0) n k (s .pre .0), omega (arith, long))
-
-sub-put-bytes : tie.Need-sub-put-bytes
-sub-put-bytes c = search needs
-
-part-put-bytes-start : tie.Need-part-put-bytes-start
-part-put-bytes-start c = search needs
-
-part-put-bytes-end : tie.Need-part-put-bytes-end
-part-put-bytes-end c = search needs
-
-put-bytes-requires : tie.Need-put-bytes-requires
-put-bytes-requires c κs = search needs
-
-same-length : tie.Need-same-length
-same-length c = search needs
-
-same-length-2 : tie.Need-same-length-2
-same-length-2 c = search needs
+    let k = c .before .before in
+    let u = unscrambled k in
+    (part-bits u (size k) (left k), part-long (size k) (left k) (held u) (omega (arith, held-long u)) ∙ omega arith)
 
 returns : tie.Need-returns
 returns c =
     let put = c .before .before .put-bytes in
-    let c2 = c .before .before .before .before .before .before .before in
-    let c1 = c2 .before .before .before in
-    let c0 = c1 .before .before .before .before .before in
-    let s = c0 .before .before .before .before in
-    let bits = s .args .bits .now in
-    let area = s .args .area .now in
-    let n = length area * 8 in
-    let long : length (put .last .1 .0) ≡ length area = omega arith in
-    let m = c0 .scramble .last .1 .0 in
-    let part = message-long bits m (c0 .scramble .ensures .0) (n - 0) (omega arith) in
-    let message = message-bits bits m (c0 .scramble .ensures .0) (n - 0) (s .pre .0) in
-    let there = bytes-there (take (n - 0) m) area (put .ensures) message (omega (arith, part)) in
-    right-delivered bits (c0 .scramble .last .1 .0) (c0 .scramble .ensures .0) area (n - 0) n (length bits - n) (c1 .check-of .result)
-    (s .pre .1) (omega arith) (omega arith) (omega arith) (check-read _ _ message (c1 .check-of .ensures)) (put .last .1 .0) long
-    (bytes-from (put .last .1 .0) (λ i. omega (arith, c .slice-known4 .given i))) there
-    (c2 .is-check .ensures .0 (c .before .before .before .before .before .before .if1 .taken))
-
-same-length-3 : tie.Need-same-length-3
-same-length-3 c = search needs
+    let t = c .before .before .before .before .before .before in
+    let k = t .before .before .before .before in
+    let u = unscrambled k in (
+      omega arith,
+      bytes-from (put .last .1 .0) (λ i. omega (arith, c .slice-known4 .given i)),
+      right-check (parted k) (t .before .is-check .ensures .0 (t .if1 .taken)) (put .last .1 .0)
+          (bytes-there (message k) (begin u .args .area .now) (put .ensures) (part-bits u 0 (size k - 0)) (omega (arith, message-long k))),
+    )
 
 returns-2 : tie.Need-returns-2
 returns-2 c =
-    let c2 = c .before in
-    let c1 = c2 .before .before .before in
-    let c0 = c1 .before .before .before .before .before in
-    let s = c0 .before .before .before .before in
-    let bits = s .args .bits .now in
-    let area = s .args .area .now in
-    let n = length area * 8 in
-    let message = message-bits bits (c0 .scramble .last .1 .0) (c0 .scramble .ensures .0) (n - 0) (s .pre .0) in
-    wrong-not-delivered bits (c0 .scramble .last .1 .0) (c0 .scramble .ensures .0) area (n - 0) n (length bits - n) (c1 .check-of .result)
-    (s .pre .1) (omega arith) (omega arith) (omega arith) (check-read _ _ message (c1 .check-of .ensures)) (c2 .is-check .ensures .1 (c .if1 .left))
+    let k = c .before .before .before .before in
+    (refl, λ frame long. wrong-check (parted k) (c .before .is-check .ensures .1 (c .if1 .left)) frame (length-bitsOf frame ∙ omega (arith, message-long k)))
 
 pub deliver-spec : {M : Type 1} → statement M
 deliver-spec =
     tie.close
     (tie.spec
-    mul-n
-    scramble-requires
-    sub-check-of
-    part-check-of-start
-    part-check-of-end
-    check-of-requires
-    sub-is-check
-    part-is-check-start
-    part-is-check-end
+    (λ c. search needs)
+    (λ c κs. search needs)
+    (λ c. search needs)
+    (λ c. search needs)
+    (λ c. search needs)
+    (λ c κs. search needs)
+    (λ c. search needs)
+    (λ c. search needs)
+    (λ c. search needs)
     is-check-requires
-    sub-put-bytes
-    part-put-bytes-start
-    part-put-bytes-end
-    put-bytes-requires
-    same-length
-    same-length-2
+    (λ c. search needs)
+    (λ c. search needs)
+    (λ c. search needs)
+    (λ c κs. search needs)
+    (λ c. search needs)
+    (λ c. search needs)
     returns
-    same-length-3
+    (λ c. search needs)
     returns-2)

@@ -8,36 +8,6 @@ use borrow.Author.Needs.{needs}
 use Rattle.receiver_a.proofs.receiver.information.Statement.{statement}
 use Rattle.receiver_a.proofs.receiver.information.Tie as tie
 
-sub-put : tie.Need-sub-put
-sub-put c = search needs
-
-part-put-start : tie.Need-part-put-start
-part-put-start c = search needs
-
-part-put-end : tie.Need-part-put-end
-part-put-end c = search needs
-
-slice-aggregate-put : tie.Need-slice-aggregate-put
-slice-aggregate-put c = search needs
-
-put-requires : tie.Need-put-requires
-put-requires c κs = search needs
-
-sub-put-2 : tie.Need-sub-put-2
-sub-put-2 c = search needs
-
-part-put-start-2 : tie.Need-part-put-start-2
-part-put-start-2 c = search needs
-
-part-put-end-2 : tie.Need-part-put-end-2
-part-put-end-2 c = search needs
-
-slice-aggregate-put-2 : tie.Need-slice-aggregate-put-2
-slice-aggregate-put-2 c = search needs
-
-put-requires-2 : tie.Need-put-requires-2
-put-requires-2 c κs = search needs
-
 returns : tie.Need-returns
 returns c =
     let c1 = c .before .before .before .before .before in
@@ -51,14 +21,14 @@ pub information-spec : {M : Type 1} → statement M
 information-spec =
     tie.close
     (tie.spec
-    sub-put
-    part-put-start
-    part-put-end
-    slice-aggregate-put
-    put-requires
-    sub-put-2
-    part-put-start-2
-    part-put-end-2
-    slice-aggregate-put-2
-    put-requires-2
+    (λ c. search needs)
+    (λ c. search needs)
+    (λ c. search needs)
+    (λ c. search needs)
+    (λ c κs. search needs)
+    (λ c. search needs)
+    (λ c. search needs)
+    (λ c. search needs)
+    (λ c. search needs)
+    (λ c κs. search needs)
     returns)

@@ -1,130 +1,51 @@
--- `receiver_a::receiver::read` meets its contract: two OFDM symbols are read one after the other, and then answered.
+-- `receiver_a::receiver::read` meets its contract: what the two OFDM symbols carry is answered as two rows.
 -- Assumes nothing.
-use native.Mathlib.Omega.{arith}
-use Rattle.receiver_a.specs.declared.phases.Read.{Read}
-use Rattle.receiver_a.proofs.Bursts.{Burst, differing-le, rows-read, bits-read, fields-read}
+use mathlib.Core.Path.{sym, ap₂, _∙_}
+use mathlib.Core.List.{_++_}
+use Prim.Native.Nat.{_+_}
+use Rattle.payload_a.proofs.Fields.{bits-carried-by, length-carried-by}
+use Rattle.payload_a.proofs.Framing.{carried-append, differ-fields}
 use borrow.Author.Needs.{needs}
 use Rattle.receiver_a.proofs.receiver.read.Statement.{statement}
 use Rattle.receiver_a.proofs.receiver.read.Tie as tie
 
--- both OFDM symbols have been read
-abbrev start : tie.After-read-bits2 → tie.Start
-start c = c .before .before .before .before .before .before .before
-
-abbrev first : tie.After-read-bits2 → Read
-first c = c .before .before .before .read-bits .result
-
-abbrev second : tie.After-read-bits2 → Read
-second c = c .read-bits2 .result
-
-burst : (c : tie.After-read-bits2) → Burst (start c .args .i .now) (start c .args .q .now) (first c) (second c)
-burst c = record { begun = c .before .before .before .read-bits .ensures; carried-on = c .read-bits2 .ensures }
-
-sub-read-bits : tie.Need-sub-read-bits
-sub-read-bits c = search needs
-
-part-read-bits-start : tie.Need-part-read-bits-start
-part-read-bits-start c = search needs
-
-part-read-bits-end : tie.Need-part-read-bits-end
-part-read-bits-end c = search needs
-
-sub-read-bits-2 : tie.Need-sub-read-bits-2
-sub-read-bits-2 c = search needs
-
-part-read-bits-start-2 : tie.Need-part-read-bits-start-2
-part-read-bits-start-2 c = search needs
-
-part-read-bits-end-2 : tie.Need-part-read-bits-end-2
-part-read-bits-end-2 c = search needs
-
-read-bits-requires : tie.Need-read-bits-requires
-read-bits-requires c κs = search needs
-
-sub-read-bits-3 : tie.Need-sub-read-bits-3
-sub-read-bits-3 c = search needs
-
-part-read-bits-start-3 : tie.Need-part-read-bits-start-3
-part-read-bits-start-3 c = search needs
-
-part-read-bits-end-3 : tie.Need-part-read-bits-end-3
-part-read-bits-end-3 c = search needs
-
-sub-read-bits-4 : tie.Need-sub-read-bits-4
-sub-read-bits-4 c = search needs
-
-part-read-bits-start-4 : tie.Need-part-read-bits-start-4
-part-read-bits-start-4 c = search needs
-
-part-read-bits-end-4 : tie.Need-part-read-bits-end-4
-part-read-bits-end-4 c = search needs
-
-read-bits-requires-2 : tie.Need-read-bits-requires-2
-read-bits-requires-2 c κs = search needs
-
-differing-requires : tie.Need-differing-requires
-differing-requires c κs = search needs
-
-differing-requires-2 : tie.Need-differing-requires-2
-differing-requires-2 c κs = search needs
-
-add-differing : tie.Need-add-differing
-add-differing c =
-    let u1 = c .before .before .before .before in
-    let r2 = u1 .before .before .before .before in
-    omega (arith, u1 .differing .ensures, c .differing2 .ensures, differing-le (first r2 .bits), differing-le (second r2 .bits))
-
-block-requires : tie.Need-block-requires
-block-requires c κs = search needs
-
-block-requires-2 : tie.Need-block-requires-2
-block-requires-2 c κs = search needs
-
 answer-requires : tie.Need-answer-requires
 answer-requires c κs =
-    let b2 = c .before in
-    let b1 = b2 .before .before .before .before in
-    let r2 = b1 .before .before .before .before .before .before .before .before .before .before .before .before in
-    let s = start r2 in
-    (s .pre .0, rows-read (burst r2) (b1 .block .ensures) (b2 .block2 .ensures), s .pre .3)
-
-same-length : tie.Need-same-length
-same-length c = search needs
+    let s = c .before .before .before .before .before .before .before .before in
+    let both = s .pre .1 in
+    let first = s .args .first .now in
+    let second = s .args .second .now in (
+      s .pre .0,
+      rw (c .before .before .block .ensures, c .before .block2 .ensures) (record {
+        first-long = length-carried-by first (both .first-long);
+        second-long = length-carried-by second (both .second-long);
+        first-bits = bits-carried-by first (both .first-bits);
+        second-bits = bits-carried-by second (both .second-bits);
+      }),
+      s .pre .2,
+    )
 
 returns : tie.Need-returns
 returns c =
-    let b2 = c .before .before .before .before in
-    let b1 = b2 .before .before .before .before in
-    let u2 = b1 .before .before .before .before in
-    let u1 = u2 .before .before .before .before in
-    let r2 = u1 .before .before .before .before in
-    let bits = bits-read (burst r2) (b1 .block .ensures) (b2 .block2 .ensures) in
-    let fields = fields-read (burst r2) (u1 .differing .ensures) (u2 .differing2 .ensures) in
+    let d = c .before .before .before .before .before .before in
+    let s = d .before .before .before .before .before in
+    let first = s .args .first .now in
+    let second = s .args .second .now in
+    let long = s .pre .1 .first-long in
+    let bits = ap₂ _++_ (c .before .before .before .before .before .block .ensures) (c .before .before .before .before .block2 .ensures)
+    ∙ sym (carried-append first second long) in
+    let fields = ap₂ _+_ (d .before .differing .ensures .0) (d .differing2 .ensures .0) ∙ sym (differ-fields first second long) in
     rw (← bits, ← fields) (c .before .before .answer .ensures)
 
 pub read-spec : {M : Type 1} → statement M
 read-spec =
     tie.close
     (tie.spec
-    sub-read-bits
-    part-read-bits-start
-    part-read-bits-end
-    sub-read-bits-2
-    part-read-bits-start-2
-    part-read-bits-end-2
-    read-bits-requires
-    sub-read-bits-3
-    part-read-bits-start-3
-    part-read-bits-end-3
-    sub-read-bits-4
-    part-read-bits-start-4
-    part-read-bits-end-4
-    read-bits-requires-2
-    differing-requires
-    differing-requires-2
-    add-differing
-    block-requires
-    block-requires-2
+    (λ c κs. search needs)
+    (λ c κs. search needs)
+    (λ c. search needs)
+    (λ c κs. search needs)
+    (λ c κs. search needs)
     answer-requires
-    same-length
+    (λ c. search needs)
     returns)

@@ -2,7 +2,7 @@
 -- Assumes nothing.
 use mathlib.Core.Path.{sym, ap}
 use mathlib.Core.Bool.{Bool}
-use Rattle.receiver_a.specs.HeldA.{settledAs}
+use Rattle.receiver_a.specs.Steps.{settledAs}
 use Rattle.receiver_a.proofs.receiver.settled.Statement.{statement}
 use Rattle.receiver_a.proofs.receiver.settled.Tie as tie
 

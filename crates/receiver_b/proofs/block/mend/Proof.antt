@@ -7,44 +7,30 @@ use borrow.Author.Needs.{needs}
 use Rattle.receiver_b.proofs.block.mend.Statement.{statement}
 use Rattle.receiver_b.proofs.block.mend.Tie as tie
 
-copy-requires : tie.Need-copy-requires
-copy-requires c κs = omega (arith, block-bits-few (c .before .before .before .before .args .mode))
-
-same-length : tie.Need-same-length
-same-length c = search needs
-
 returns : tie.Need-returns
 returns c =
-    let s = c .before .before .before .before .before .before .before in
+    let then = c .before .before .before .before in
+    let s = then .before .before .before in
     let a = s .args in
-    taken-uncoded (a .mode) (c .before .before .before .before .if1 .taken) (a .block .now) (a .out .now) _ (s .pre .1) (s .pre .2) (omega arith)
+    taken-uncoded (a .mode) (then .if1 .taken) (a .block .now) (a .out .now) _ (s .pre .1) (s .pre .2) (omega arith)
     (c .before .before .copy .ensures .1)
-
-decode-requires : tie.Need-decode-requires
-decode-requires c κs = search needs
-
-near-of-requires : tie.Need-near-of-requires
-near-of-requires c κs = search needs
-
-same-length-2 : tie.Need-same-length-2
-same-length-2 c = search needs
 
 returns-2 : tie.Need-returns-2
 returns-2 c =
-    let s = c .before .before .before .before .before .before .before .before in
+    let else = c .before .before .before .before in
+    let s = else .before .before .before in
     let a = s .args in
-    let decode = c .before .before .before .decode in
-    rw (c .near-of .ensures) (mended-coded (a .mode) (s .pre .0) (c .before .before .before .before .before .if1 .left) (a .block .now) (a .out .now)
-    (decode .result) (decode .last .1 .1 .0) (s .pre .1) (s .pre .2) (s .pre .3) (omega arith) (decode .ensures))
+    let decode = c .before .before .decode in
+    mended-coded (a .mode) (s .pre .0) (else .if1 .left) (a .block .now) (a .out .now)
+    (decode .result) (decode .last .1 .1 .0) (omega arith) (s .pre .1) (s .pre .2) (s .pre .3) (decode .ensures)
 
 pub mend-spec : {M : Type 1} → statement M
 mend-spec =
     tie.close
     (tie.spec
-    copy-requires
-    same-length
+    (λ c κs. omega (arith, block-bits-few (c .before .before .before .before .args .mode)))
+    (λ c. search needs)
     returns
-    decode-requires
-    near-of-requires
-    same-length-2
+    (λ c κs. search needs)
+    (λ c. search needs)
     returns-2)

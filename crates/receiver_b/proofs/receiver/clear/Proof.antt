@@ -5,7 +5,8 @@ use mathlib.Core.List.{List, _++_, append-nil}
 use Prim.Native.Nat.{ℕ, _-_, _≤_}
 use native.Mathlib.Omega.{arith}
 use borrow.Author.Fill.{fill-none, fill-more}
-use lib.ListN.{length, set, drop, replicate, length-set, drop-of-length-le}
+use lib.ListN.{length, set, drop, replicate, length-set}
+use lib.Seq.{drop-length}
 use borrow.Author.Needs.{needs}
 use Rattle.receiver_b.proofs.receiver.clear.Statement.{statement}
 use Rattle.receiver_b.proofs.receiver.clear.Tie as tie
@@ -16,18 +17,6 @@ Inv-loop out₀ i₀ out i = (i ≤ length out₀) × (length out ≡ length out
 abbrev μ-loop : tie.MeasureT-loop
 μ-loop out₀ i₀ out i = length out₀ - i
 
-loop-holds : tie.Need-loop-holds Inv-loop μ-loop
-loop-holds c = (omega arith, refl, fill-none (c .args .out .now) 0)
-
-slice-write-out : tie.Need-slice-write-out Inv-loop μ-loop
-slice-write-out c = search needs
-
-add-i : tie.Need-add-i Inv-loop μ-loop
-add-i c = search needs
-
-loop-less : tie.Need-loop-less Inv-loop μ-loop
-loop-less c = search needs
-
 loop-again : tie.Need-loop-again Inv-loop μ-loop
 loop-again c =
     let l = c .before .loop in
@@ -37,16 +26,12 @@ loop-again c =
       ap (λ (xs : List ℕ). set xs (l .i) 0) (l .inv .2) ∙ fill-more (l .i) 0 out (omega arith),
     )
 
-same-length : tie.Need-same-length Inv-loop μ-loop
-same-length c = search needs
-
 returns : tie.Need-returns Inv-loop μ-loop
 returns c =
     let l = c .before .loop in
     let out = c .before .before .args .out .now in
-    let e : l .i ≡ length out = omega arith in
-    rw e at (l .inv .2) ∙ ap (λ (rest : List ℕ). replicate (length out) 0 ++ rest) (drop-of-length-le out {i = length out} (omega arith))
-    ∙ append-nil (replicate (length out) 0)
+    let all : l .i ≡ length out = omega arith in
+    rw (all, drop-length out, append-nil) at (l .inv .2)
 
 pub clear-spec : {M : Type 1} → statement M
 clear-spec =
@@ -54,10 +39,10 @@ clear-spec =
     (tie.spec
     Inv-loop
     μ-loop
-    loop-holds
-    slice-write-out
-    add-i
-    loop-less
+    (λ c. (omega arith, refl, fill-none (c .args .out .now) 0))
+    (λ c. search needs)
+    (λ c. search needs)
+    (λ c. search needs)
     loop-again
-    same-length
+    (λ c. search needs)
     returns)

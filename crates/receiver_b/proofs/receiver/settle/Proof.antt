@@ -13,21 +13,6 @@ use Rattle.receiver_b.proofs.receiver.settle.Tie as tie
 returns : tie.Need-returns
 returns c = rw (c .if1 .taken) (refl, refl)
 
-sub-clear : tie.Need-sub-clear
-sub-clear c = search needs
-
-part-clear-start : tie.Need-part-clear-start
-part-clear-start c = search needs
-
-part-clear-end : tie.Need-part-clear-end
-part-clear-end c = search needs
-
-clear-requires : tie.Need-clear-requires
-clear-requires c κs = search needs
-
-same-length : tie.Need-same-length
-same-length c = search needs
-
 returns-2 : tie.Need-returns-2
 returns-2 c =
     let s = c .before .before .before .before .before .before in
@@ -42,9 +27,9 @@ settle-spec =
     tie.close
     (tie.spec
     returns
-    sub-clear
-    part-clear-start
-    part-clear-end
-    clear-requires
-    same-length
+    (λ c. search needs)
+    (λ c. search needs)
+    (λ c. search needs)
+    (λ c κs. search needs)
+    (λ c. search needs)
     returns-2)

@@ -1,129 +1,109 @@
 -- `receiver_b::stream::close` meets its contract: a mended block is one block more of the frame; one that cannot be mended leaves the state stuck at it.
 -- Assumes nothing.
-use mathlib.Core.Path.{_≡_, ap, _∙_}
-use Prim.Native.Nat.{ℕ, _+_, _-_, _*_}
+use mathlib.Core.Path.{_≡_, ap, subst, _∙_}
+use Prim.Native.Nat.{ℕ, _+_, _-_, _*_, _≤_}
 use native.Mathlib.Nat.{sub-zero, mul-le-mul-right}
 use native.Mathlib.Omega.{arith}
-use borrow.Author.Tests.{not-true, not-false}
-use lib.ListN.{take}
+use borrow.Rule.Slice.PartMut.{putMid, mid-len, put-same}
+use lib.ListN.{length, take, drop}
 use lib.Seq.{length-take-le}
-use Rattle.bch.proofs.Digits.{bits-take}
-use Rattle.payload_b.specs.CodedB.{blockBits, blockBytes}
-use Rattle.payload.proofs.Copies.{part-long}
+use Rattle.bits.proofs.Digits.{bits-take}
+use Rattle.payload_b.specs.CodedB.{blockBytes}
 use Rattle.payload_b.proofs.Blocks.{block-bytes-pos, block-bits-few}
-use Rattle.receiver_b.proofs.Taking.{mended-few, closes-mended, closes-lost}
+use Rattle.receiver_b.specs.Steps.{Finishes}
+use Rattle.receiver_b.specs.declared.block.Finished.{Finished}
+use Rattle.receiver_b.specs.declared.block.Finished.the-variants.{Mended}
+use Rattle.receiver_b.proofs.Taking.{mends-few, lost, closes-mended, closes-lost}
 use borrow.Author.Needs.{needs}
 use Rattle.receiver_b.proofs.stream.close.Statement.{statement}
 use Rattle.receiver_b.proofs.stream.close.Tie as tie
 
+-- from where the block's bytes are known, and where it is finished
+abbrev first : tie.After-block-bytes → tie.Start
+first c = c .before .before .before
+
+abbrev step : tie.After-finish → tie.After-block-bytes
+step c = c .before .before .before .before
+
+-- the place of its bytes, and that they have room
+place : (c : tie.After-block-bytes) → c .block-bytes .result * first c .args .from .done ≡ blockBytes (first c .args .mode) * first c .args .from .done
+place c = ap (λ (n : ℕ). n * first c .args .from .done) (c .block-bytes .ensures)
+
+fits : (c : tie.After-block-bytes) → c .block-bytes .result * first c .args .from .done + c .block-bytes .result ≤ length (first c .args .area .now)
+fits c = let e = place c in omega (arith, first c .pre .fits)
+
 -- the block that is finished
-word : (s : tie.Start) → take (s .args .from .count - 0) (s .args .block .now) ≡ take (blockBits (s .args .mode)) (s .args .block .now)
-word s = ap (λ (n : ℕ). take n (s .args .block .now)) (sub-zero (s .args .from .count) ∙ s .pre .full)
-
-block-bytes-requires : tie.Need-block-bytes-requires
-block-bytes-requires c κs = search needs
-
-mul-at : tie.Need-mul-at
-mul-at c =
-    let s = c .before .before .before .before in
-    let e = ap (λ (n : ℕ). n * s .args .from .done) (c .before .block-bytes .ensures) in
-    omega (arith, s .pre .fits)
-
-sub-finish : tie.Need-sub-finish
-sub-finish c = search needs
-
-part-finish-start : tie.Need-part-finish-start
-part-finish-start c = search needs
-
-part-finish-end : tie.Need-part-finish-end
-part-finish-end c =
-    let s = c .before .before .before .before in
-    omega (arith, s .pre .full, s .pre .long, block-bits-few (s .args .mode))
-
-add-finish : tie.Need-add-finish
-add-finish c =
-    let s = c .before .before .before .before .before in
-    let e = ap (λ (n : ℕ). n * s .args .from .done) (c .before .before .block-bytes .ensures) in
-    omega (arith, s .pre .fits)
-
-sub-finish-2 : tie.Need-sub-finish-2
-sub-finish-2 c = search needs
-
-part-finish-start-2 : tie.Need-part-finish-start-2
-part-finish-start-2 c = search needs
-
-part-finish-end-2 : tie.Need-part-finish-end-2
-part-finish-end-2 c =
-    let s = c .before .before .before .before .before in
-    let e = ap (λ (n : ℕ). n * s .args .from .done) (c .before .before .block-bytes .ensures) in
-    omega (arith, s .pre .fits)
+word : (s : tie.Start) → take (s .args .from .count - 0) (s .args .block .now) ≡ take (s .args .from .count) (s .args .block .now)
+word s = ap (λ (n : ℕ). take n (s .args .block .now)) (sub-zero (s .args .from .count))
 
 finish-requires : tie.Need-finish-requires
 finish-requires c κs =
-    let s = c .before .before .before .before .before .before in
-    let block = s .args .block .now in
+    let k = c .before .before .before in
+    let s = first k in
     let count = s .args .from .count in
-    let y = c .before .before .before .block-bytes .result in
-    let at = y * s .args .from .done in
-    let e : y ≡ blockBytes (s .args .mode) = c .before .before .before .block-bytes .ensures in
-    let same = ap (λ (n : ℕ). n * s .args .from .done) e in
-    let full : count - 0 ≡ blockBits (s .args .mode) = omega (arith, s .pre .full) in
-    let long = length-take-le (count - 0) block (omega (arith, s .pre .long, block-bits-few (s .args .mode))) in
-    let part = part-long at (at + y - at) (s .args .area .now) (omega (arith, s .pre .fits)) in
-    (s .pre .known, bits-take (count - 0) block (s .pre .bits), long ∙ full, part ∙ omega arith)
+    let at = k .block-bytes .result * s .args .from .done in
+    let long = length-take-le (count - 0) (s .args .block .now) (omega (arith, s .pre .full, s .pre .block .0, block-bits-few (s .args .mode))) in
+    let part = mid-len at (at + k .block-bytes .result) (s .args .area .now) (fits k) in
+    (s .pre .known, bits-take (count - 0) (s .args .block .now) (s .pre .block .1), long ∙ omega (arith, s .pre .full), part ∙ omega arith)
 
-same-length : tie.Need-same-length
-same-length c = search needs
+-- what is known of it, by what `finish` answered
+abbrev Ended : tie.After-finish → Finished → Type 0
+Ended c f =
+    let s = first (step c) in
+    let at = step c .block-bytes .result * s .args .from .done in
+    Finishes (s .args .mode) (s .args .from .register) (take (s .args .from .count - 0) (s .args .block .now))
+    (take (at + step c .block-bytes .result - at) (drop at (s .args .area .now))) f (c .finish .last .1 .1 .1 .0)
 
 returns : tie.Need-returns
 returns c =
-    let c1 = c .before .before .before .before in
-    let step = c1 .before .before .before .before in
-    let s = step .before .before .before in
-    closes-lost (s .pre) (step .block-bytes .result) (step .block-bytes .ensures) (word s) (c1 .finish .ensures) (not-true _ (c .if1 .taken))
+    let k = c .before .before .before .before in
+    let s = first (step k) in
+    let at = step k .block-bytes .result * s .args .from .done in
+    let size = at + step k .block-bytes .result - at in
+    let lost = subst (Ended k) (c .enum-told .given .1) (k .finish .ensures) in
+    closes-lost (s .pre) (word s) (lost .0) (ap (putMid at size (s .args .area .now)) (lost .1) ∙ put-same at size (s .args .area .now))
 
-add-t10 : tie.Need-add-t10
-add-t10 c =
-    let s = c .before .before .before .before .before .before .before .before .before .before .before .before in
-    omega (arith, s .pre .fits, mul-le-mul-right (s .args .from .done) (block-bytes-pos (s .args .mode)))
+-- where it is mended
+abbrev finished : tie.After-known-told → tie.After-finish
+finished c = c .before .before .before .before .before
 
-add-t13 : tie.Need-add-t13
-add-t13 c =
-    let c0 = c .before .before .before in
-    let c1 = c0 .before .before .before .before in
-    let step = c1 .before .before .before .before in
-    let s = step .before .before .before in
-    let few = mended-few (s .pre) (step .block-bytes .result) (step .block-bytes .ensures) (word s) (c1 .finish .ensures) (not-false _ (c0 .if1 .left)) in
-    omega (arith, s .pre .fits, s .pre .mended)
+mended : (c : tie.After-known-told) → Ended (finished c) (Mended (c .before .count .given .0 .0) (c .before .count .given .0 .1 .0))
+mended c = subst (Ended (finished c)) (c .before .count .given .1) (finished c .finish .ensures)
 
-same-length-2 : tie.Need-same-length-2
-same-length-2 c = search needs
+-- the total fits
+total : (c : tie.After-known-told)
+    → let a = first (step (finished c)) .args in
+    a .from .mended + c .before .count .given .0 .0 ≤ length (a .area .now)
+total c =
+    let s = first (step (finished c)) in
+    omega (arith, s .pre .fits, s .pre .mended, mended c .near, mends-few (s .args .mode) (s .pre .known))
 
 returns-2 : tie.Need-returns-2
 returns-2 c =
-    let c0 = c .before .before .before in
-    let c1 = c0 .before .before .before .before in
-    let step = c1 .before .before .before .before in
-    let s = step .before .before .before in
-    closes-mended (s .pre) (step .block-bytes .result) (step .block-bytes .ensures) (word s) (c1 .finish .ensures) (not-false _ (c0 .if1 .left))
+    let k = c .before .before in
+    let e = step (finished k) in
+    let at = e .block-bytes .result * first e .args .from .done in
+    closes-mended (first e .pre) (word (first e)) at (at + e .block-bytes .result) (place e) (ap (λ (n : ℕ). at + n) (e .block-bytes .ensures)) (mended k)
 
 pub close-spec : {M : Type 1} → statement M
 close-spec =
     tie.close
     (tie.spec
-    block-bytes-requires
-    mul-at
-    sub-finish
-    part-finish-start
-    part-finish-end
-    add-finish
-    sub-finish-2
-    part-finish-start-2
-    part-finish-end-2
+    (λ c κs. search needs)
+    (λ c. omega (arith, fits (c .before)))
+    (λ c. search needs)
+    (λ c. search needs)
+    (λ c. let s = first (c .before) in omega (arith, s .pre .full, s .pre .block .0, block-bits-few (s .args .mode)))
+    (λ c. omega (arith, fits (c .before .before)))
+    (λ c. search needs)
+    (λ c. search needs)
+    (λ c. omega (arith, fits (c .before .before)))
     finish-requires
-    same-length
+    (λ c. search needs)
+    (λ c. search needs)
+    (λ c. search needs)
     returns
-    add-t10
-    add-t13
-    same-length-2
+    (λ c. let s = first (step (finished (c .before))) in omega (arith, s .pre .fits, mul-le-mul-right (s .args .from .done) (block-bytes-pos (s .args .mode))))
+    (λ c. omega (arith, total (c .before .before)))
+    (λ c. search needs)
     returns-2)

@@ -12,21 +12,9 @@ use Rattle.report.proofs.Texts.{room-behind}
 use Rattle.report.proofs.lines.accepted.Statement.{statement}
 use Rattle.report.proofs.lines.accepted.Tie as tie
 
-empty-requires : tie.Need-empty-requires
-empty-requires c κs = search needs
-
-slice-aggregate-with-number : tie.Need-slice-aggregate-with-number
-slice-aggregate-with-number c = search needs
-
-with-number-requires : tie.Need-with-number-requires
-with-number-requires c κs = search needs
-
 bytes : (c : tie.After-with-number) → c .with-number .result ≡ textOf (ascii "payload A " ++ decimal (c .before .before .before .args .bytes))
 unfolding ascii
 bytes c = c .with-number .ensures [] (c .before .before .empty .ensures)
-
-slice-aggregate-with-number-2 : tie.Need-slice-aggregate-with-number-2
-slice-aggregate-with-number-2 c = search needs
 
 with-number-requires-2 : tie.Need-with-number-requires-2
 unfolding ascii
@@ -40,9 +28,6 @@ mended : (c : tie.After-with-number2)
 unfolding ascii
 mended c = c .with-number2 .ensures _ (bytes (c .before .before))
 
-slice-aggregate-with-number-3 : tie.Need-slice-aggregate-with-number-3
-slice-aggregate-with-number-3 c = search needs
-
 with-number-requires-3 : tie.Need-with-number-requires-3
 unfolding ascii
 with-number-requires-3 c κs =
@@ -55,9 +40,6 @@ differing : (c : tie.After-with-number3)
     ≡ textOf (ascii "payload A " ++ decimal (a .bytes) ++ ascii " bytes\ncorrected " ++ decimal (a .mended) ++ ascii " protected " ++ decimal (a .differing))
 unfolding ascii
 differing c = c .with-number3 .ensures _ (mended (c .before .before))
-
-slice-aggregate-with : tie.Need-slice-aggregate-with
-slice-aggregate-with c = search needs
 
 with-requires : tie.Need-with-requires
 unfolding ascii
@@ -74,13 +56,13 @@ pub accepted-spec : {M : Type 1} → statement M
 accepted-spec =
     tie.close
     (tie.spec
-    empty-requires
-    slice-aggregate-with-number
-    with-number-requires
-    slice-aggregate-with-number-2
+    (λ c κs. search needs)
+    (λ c. search needs)
+    (λ c κs. search needs)
+    (λ c. search needs)
     with-number-requires-2
-    slice-aggregate-with-number-3
+    (λ c. search needs)
     with-number-requires-3
-    slice-aggregate-with
+    (λ c. search needs)
     with-requires
     returns)

@@ -12,21 +12,9 @@ use Rattle.report.proofs.Texts.{room-behind}
 use Rattle.report.proofs.lines.refused.Statement.{statement}
 use Rattle.report.proofs.lines.refused.Tie as tie
 
-empty-requires : tie.Need-empty-requires
-empty-requires c κs = search needs
-
-slice-aggregate-with-number : tie.Need-slice-aggregate-with-number
-slice-aggregate-with-number c = search needs
-
-with-number-requires : tie.Need-with-number-requires
-with-number-requires c κs = search needs
-
 number : (c : tie.After-with-number) → c .with-number .result ≡ textOf (ascii "refused " ++ decimal (c .before .before .before .args .number))
 unfolding ascii
 number c = c .with-number .ensures [] (c .before .before .empty .ensures)
-
-slice-aggregate-with-number-2 : tie.Need-slice-aggregate-with-number-2
-slice-aggregate-with-number-2 c = search needs
 
 with-number-requires-2 : tie.Need-with-number-requires-2
 unfolding ascii
@@ -39,9 +27,6 @@ place : (c : tie.After-with-number2)
     c .with-number2 .result ≡ textOf (ascii "refused " ++ decimal (a .number) ++ ascii " place " ++ decimal (a .place))
 unfolding ascii
 place c = c .with-number2 .ensures _ (number (c .before .before))
-
-slice-aggregate-with : tie.Need-slice-aggregate-with
-slice-aggregate-with c = search needs
 
 with-requires : tie.Need-with-requires
 unfolding ascii
@@ -57,11 +42,11 @@ pub refused-spec : {M : Type 1} → statement M
 refused-spec =
     tie.close
     (tie.spec
-    empty-requires
-    slice-aggregate-with-number
-    with-number-requires
-    slice-aggregate-with-number-2
+    (λ c κs. search needs)
+    (λ c. search needs)
+    (λ c κs. search needs)
+    (λ c. search needs)
     with-number-requires-2
-    slice-aggregate-with
+    (λ c. search needs)
     with-requires
     returns)

@@ -25,22 +25,10 @@ loop-holds c =
     let none : drop 20 out ≡ [] = drop-of-length-le out {i = 20} (omega arith) in
     (omega arith, c .pre, omega arith, rw none (append-nil (decimalIn 20 (c .args .n))))
 
-cast-out : tie.Need-cast-out Inv-loop μ-loop
-cast-out c = search needs
-
-add-out : tie.Need-add-out Inv-loop μ-loop
-add-out c = search needs
-
-slice-write-out : tie.Need-slice-write-out Inv-loop μ-loop
-slice-write-out c = search needs
-
 sub-i : tie.Need-sub-i Inv-loop μ-loop
 sub-i c =
     let l = c .before .loop in
     omega (arith, several (l .rest) (l .i) (omega arith) (l .inv .2))
-
-loop-less : tie.Need-loop-less Inv-loop μ-loop
-loop-less c = search needs
 
 loop-again : tie.Need-loop-again Inv-loop μ-loop
 loop-again c =
@@ -53,15 +41,6 @@ loop-again c =
       ap (λ (n : ℕ). decimalIn n (l .rest / 10) ++ drop n (set (l .out) (l .i) (48 + l .rest % 10))) e
           ∙ digit-more (l .out) (l .i) (l .rest) (omega arith) (omega arith) ∙ l .inv .3,
     )
-
-cast-out-2 : tie.Need-cast-out-2 Inv-loop μ-loop
-cast-out-2 c = search needs
-
-add-out-2 : tie.Need-add-out-2 Inv-loop μ-loop
-add-out-2 c = search needs
-
-slice-write-out-2 : tie.Need-slice-write-out-2 Inv-loop μ-loop
-slice-write-out-2 c = search needs
 
 same-length : tie.Need-same-length Inv-loop μ-loop
 same-length c = simp length-set (omega arith)
@@ -78,14 +57,14 @@ spell-spec =
     Inv-loop
     μ-loop
     loop-holds
-    cast-out
-    add-out
-    slice-write-out
+    (λ c. search needs)
+    (λ c. search needs)
+    (λ c. search needs)
     sub-i
-    loop-less
+    (λ c. search needs)
     loop-again
-    cast-out-2
-    add-out-2
-    slice-write-out-2
+    (λ c. search needs)
+    (λ c. search needs)
+    (λ c. search needs)
     same-length
     returns)

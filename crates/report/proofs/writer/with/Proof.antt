@@ -13,19 +13,10 @@ add-end c =
     let s = c .before .before in
     omega (arith, count-room (s .args .more .now) (s .args .text) (s .pre))
 
-sub-copy : tie.Need-sub-copy
-sub-copy c = search needs
-
-part-bytes-start : tie.Need-part-bytes-start
-part-bytes-start c = search needs
-
 part-bytes-end : tie.Need-part-bytes-end
 part-bytes-end c =
     let s = c .before .before in
     omega (arith, count-room (s .args .more .now) (s .args .text) (s .pre), length-room (s .args .more .now) (s .args .text) (s .pre))
-
-copy-requires : tie.Need-copy-requires
-copy-requires c κs = search needs
 
 returns : tie.Need-returns
 returns c =
@@ -36,4 +27,4 @@ returns c =
 
 pub with-spec : {M : Type 1} → statement M
 with-spec =
-    tie.close (tie.spec add-end sub-copy part-bytes-start part-bytes-end copy-requires returns)
+    tie.close (tie.spec add-end (λ c. search needs) (λ c. search needs) part-bytes-end (λ c κs. search needs) returns)

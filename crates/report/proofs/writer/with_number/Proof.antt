@@ -13,25 +13,10 @@ use Rattle.report.proofs.Texts.{room-less, room-behind}
 use Rattle.report.proofs.writer.with_number.Statement.{statement}
 use Rattle.report.proofs.writer.with_number.Tie as tie
 
-slice-aggregate-spell : tie.Need-slice-aggregate-spell
-slice-aggregate-spell c = search needs
-
-spell-requires : tie.Need-spell-requires
-spell-requires c κs = search needs
-
 with-requires : tie.Need-with-requires
 with-requires c κs =
     let s = c .before .before .before .before in
     room-less (length (s .args .word .now) + 20) _ (s .args .text) (s .pre) (omega arith)
-
-sub-with : tie.Need-sub-with
-sub-with c = search needs
-
-part-with-start : tie.Need-part-with-start
-part-with-start c = search needs
-
-part-with-end : tie.Need-part-with-end
-part-with-end c = search needs
 
 -- the digits of n
 digits : (c : tie.After-spell) → take (20 - c .spell .result) (drop (c .spell .result) (c .spell .last .1 .0)) ≡ decimal (c .before .before .before .args .n)
@@ -55,11 +40,11 @@ pub with-number-spec : {M : Type 1} → statement M
 with-number-spec =
     tie.close
     (tie.spec
-    slice-aggregate-spell
-    spell-requires
+    (λ c. search needs)
+    (λ c κs. search needs)
     with-requires
-    sub-with
-    part-with-start
-    part-with-end
+    (λ c. search needs)
+    (λ c. search needs)
+    (λ c. search needs)
     with-requires-2
     returns)

@@ -1,7 +1,7 @@
 -- `sender_a::phases::turn_bits` meets its contract: what is written so far, then the levels of what is left of the bits.
 -- Assumes nothing.
-use mathlib.Core.Path.{_≡_, refl, sym, ap, _∙_}
-use mathlib.Core.List.{List, _∷_, _++_, map, append-nil, append-assoc}
+use mathlib.Core.Path.{_≡_, refl, sym, _∙_}
+use mathlib.Core.List.{List, _∷_, _++_, append-nil, append-assoc}
 use Prim.Native.Nat.{ℕ, suc, _+_, _-_, _*_, _≤_, _<_}
 use native.Mathlib.Omega.{arith}
 use native.Mathlib.Numerals.{add-one}
@@ -9,77 +9,56 @@ use lib.IntN.{ℤ}
 use lib.ListN.{length, getD, set, take, drop, length-set, drop-of-length-le}
 use lib.Seq.{take-all, take-suc-set, drop-cons}
 use mir.Syntax.{w16}
-use mir.Val.{toZ, ofZ}
+use mir.Val.{SFits, toZ, ofZ}
 use mir.ValLaws.{toZ-ofZ}
-use Rattle.bch.proofs.Digits.{bits-at}
+use Rattle.bits.proofs.Digits.{bits-at}
 use Rattle.points.specs.declared.Point.{Point}
 use Rattle.points.specs.Constellations.{levelI, levelQ}
 use Rattle.points.specs.Dqpsk.{turn, phasePoint, turnedFrom}
-use Rattle.sender_a.specs.Phases.{phaseAfter}
+use Rattle.sender_a.specs.declared.phases.Turned.{Turned}
+use Rattle.sender_a.specs.Phases.{phaseAfter, turnedOn}
 use borrow.Author.Needs.{needs}
 use Rattle.sender_a.proofs.phases.turn_bits.Statement.{statement}
 use Rattle.sender_a.proofs.phases.turn_bits.Tie as tie
 
--- a turn: two more bits
-module _ (bits : List ℕ) (last s to : ℕ) (room : 2 * s + 1 < length bits) (e : to ≡ turn last (2 * getD bits (2 * s) 0 + getD bits (2 * s + 1) 0)) where
-  two : drop (2 * s) bits ≡ getD bits (2 * s) 0 ∷ (getD bits (2 * s + 1) 0 ∷ drop (2 * (s + 1)) bits)
-  two =
+-- what is written, and behind it what the bits that are left are turned into
+abbrev soFar : List ℕ → List ℤ → List ℤ → ℕ → ℕ → Turned
+soFar bits is qs last s =
+    let rest = turnedOn last (drop (2 * s) bits) in
+    record { is = take s is ++ rest .is; qs = take s qs ++ rest .qs; last = rest .last }
+
+module _ (bits : List ℕ) (is qs : List ℤ) (last s : ℕ) where
+  -- one turn: two more bits
+  next : (to : ℕ) (point : Point) (i q : ℤ) → 2 * s + 1 < length bits → s < length is → s < length qs
+      → to ≡ turn last (2 * getD bits (2 * s) 0 + getD bits (2 * s + 1) 0) → point ≡ phasePoint to → i ≡ levelI point → q ≡ levelQ point
+      → SFits w16 i → SFits w16 q → soFar bits (set is s (toZ w16 (ofZ w16 i))) (set qs s (toZ w16 (ofZ w16 q))) to (s + 1) ≡ soFar bits is qs last s
+  unfolding turnedFrom phaseAfter
+  next to point i q room hi hq et ep ei eq fi fq =
       let one : suc (2 * s) ≡ 2 * s + 1 = omega arith in
       let both : suc (2 * s + 1) ≡ 2 * (s + 1) = omega arith in
-      rw (drop-cons bits (2 * s) 0 (omega arith), one, drop-cons bits (2 * s + 1) 0 room, both)
+      let two : drop (2 * s) bits ≡ getD bits (2 * s) 0 ∷ (getD bits (2 * s + 1) 0 ∷ drop (2 * (s + 1)) bits)
+      = rw (drop-cons bits (2 * s) 0 (omega arith), one, drop-cons bits (2 * s + 1) 0 room, both) in
+      rw (toZ-ofZ w16 i fi, toZ-ofZ w16 q fq, ei, eq, ep, et, two, add-one s)
+      (rw (take-suc-set is s _ hi, take-suc-set qs s _ hq, append-assoc (take s is), append-assoc (take s qs)))
 
-  next-levels : (level : Point → ℤ) (levels : List ℤ) → s < length levels
-      → take (s + 1) (set levels s (level (phasePoint to))) ++ map level (turnedFrom to (drop (2 * (s + 1)) bits)) ≡ take s levels ++ map level (turnedFrom last (drop (2 * s) bits))
-  unfolding turnedFrom
-  next-levels level levels h =
-      rw (two, sym e, add-one s, take-suc-set levels s (level (phasePoint to)) h, append-assoc)
-
-  next-phase : phaseAfter to (drop (2 * (s + 1)) bits) ≡ phaseAfter last (drop (2 * s) bits)
-  unfolding phaseAfter
-  next-phase = rw (two, e)
-
-all-levels : (level : Point → ℤ) (levels : List ℤ) (bits : List ℕ) (last s : ℕ) → length levels ≤ s → length bits ≤ 2 * s → levels ≡ take s levels ++ map level (turnedFrom last (drop (2 * s) bits))
-unfolding turnedFrom
-all-levels level levels bits last s h l = rw (drop-of-length-le bits l, take-all s levels h) (sym (append-nil levels))
-
-last-phase : (bits : List ℕ) (last s : ℕ) → length bits ≤ 2 * s → last ≡ phaseAfter last (drop (2 * s) bits)
-unfolding phaseAfter
-last-phase bits last s l = rw (drop-of-length-le bits l)
-
--- what is written, then the levels of the bits that are left
-abbrev Written : (Point → ℤ) → ℕ → List ℕ → List ℤ → ℕ → ℕ → Type 0
-Written level phase bits levels last s = (length levels ≡ 210) × (take s levels ++ map level (turnedFrom last (drop (2 * s) bits)) ≡ map level (turnedFrom phase bits))
+  -- no bits are left
+  done : length bits ≤ 2 * s → length is ≤ s → length qs ≤ s → soFar bits is qs last s ≡ record { is = is; qs = qs; last = last }
+  unfolding turnedFrom phaseAfter
+  done none hi hq = rw (drop-of-length-le bits none, take-all s is hi, take-all s qs hq, append-nil is, append-nil qs)
 
 abbrev Inv-loop : tie.InvT-loop
-Inv-loop phase bits is₀ qs₀ last₀ s₀ is qs last s =
-    (s ≤ 210) × Written levelI phase bits is last s × Written levelQ phase bits qs last s
-    × (phaseAfter last (drop (2 * s) bits) ≡ phaseAfter phase bits)
+Inv-loop phase bits is₀ qs₀ last₀ s₀ is qs last s = (s ≤ 210) × (length is ≡ 210) × (length qs ≡ 210) × (soFar bits is qs last s ≡ turnedOn phase bits)
 
 abbrev μ-loop : tie.MeasureT-loop
 μ-loop phase bits is₀ qs₀ last₀ s₀ is qs last s = 210 - s
 
 loop-holds : tie.Need-loop-holds Inv-loop μ-loop
-loop-holds c = (omega arith, (refl, refl), (refl, refl), refl)
-
-mul-turned : tie.Need-mul-turned Inv-loop μ-loop
-mul-turned c = search needs
-
-shared-slice-read-turned : tie.Need-shared-slice-read-turned Inv-loop μ-loop
-shared-slice-read-turned c = search needs
+loop-holds c = (omega arith, refl, refl, refl)
 
 mul-turned-2 : tie.Need-mul-turned-2 Inv-loop μ-loop
 mul-turned-2 c =
     let start = c .before .before .before .before in
     omega (arith, bits-at (start .args .bits .now) (start .pre .0) (2 * c .before .before .loop .s))
-
-mul-turned-3 : tie.Need-mul-turned-3 Inv-loop μ-loop
-mul-turned-3 c = search needs
-
-add-turned : tie.Need-add-turned Inv-loop μ-loop
-add-turned c = search needs
-
-shared-slice-read-turned-2 : tie.Need-shared-slice-read-turned-2 Inv-loop μ-loop
-shared-slice-read-turned-2 c = search needs
 
 add-turned-2 : tie.Need-add-turned-2 Inv-loop μ-loop
 add-turned-2 c =
@@ -88,59 +67,26 @@ add-turned-2 c =
     let s = c .before .before .before .loop .s in
     omega (arith, bit (2 * s), bit (2 * s + 1))
 
-turned-requires : tie.Need-turned-requires Inv-loop μ-loop
-turned-requires c κs = search needs
-
-point-requires : tie.Need-point-requires Inv-loop μ-loop
-point-requires c κs = search needs
-
-level-i-requires : tie.Need-level-i-requires Inv-loop μ-loop
-level-i-requires c κs = search needs
-
-mul-is : tie.Need-mul-is Inv-loop μ-loop
-mul-is c = search needs
-
-array-set-from-is : tie.Need-array-set-from-is Inv-loop μ-loop
-array-set-from-is c = search needs
-
-level-q-requires : tie.Need-level-q-requires Inv-loop μ-loop
-level-q-requires c κs = search needs
-
-mul-qs : tie.Need-mul-qs Inv-loop μ-loop
-mul-qs c = search needs
-
-array-set-from-qs : tie.Need-array-set-from-qs Inv-loop μ-loop
-array-set-from-qs c = search needs
-
-add-s : tie.Need-add-s Inv-loop μ-loop
-add-s c = search needs
-
-loop-less : tie.Need-loop-less Inv-loop μ-loop
-loop-less c = search needs
-
 loop-again : tie.Need-loop-again Inv-loop μ-loop
 loop-again c =
-    let l = c .before .before .before .before .before .before .before .loop in
-    let start = c .before .before .before .before .before .before .before .before .before in
-    let bits = start .args .bits .now in
+    let i = c .before .level-i in
+    let q = c .level-q in
+    let point = c .before .before .point in
     let to = c .before .before .before .turned in
-    let room : 2 * l .s + 1 < length bits = omega arith in
-    let i : toZ w16 (ofZ w16 (c .before .level-i .result)) ≡ levelI (phasePoint (to .result)) = toZ-ofZ w16 _ (record { sfits = c .before .level-i .ok }) ∙ c .before .level-i .ensures ∙ ap levelI (c .before .before .point .ensures) in
-    let q : toZ w16 (ofZ w16 (c .level-q .result)) ≡ levelQ (phasePoint (to .result)) = toZ-ofZ w16 _ (record { sfits = c .level-q .ok }) ∙ c .level-q .ensures ∙ ap levelQ (c .before .before .point .ensures) in (
+    let l = c .before .before .before .before .before .before .before .loop in
+    let bits = c .before .before .before .before .before .before .before .before .before .args .bits .now in (
       omega arith,
-      (simp length-set (l .inv .1 .0), rw i (next-levels bits (l .last) (l .s) (to .result) room (to .ensures) levelI (l .is) (omega arith)) ∙ l .inv .1 .1),
-      (simp length-set (l .inv .2 .0), rw q (next-levels bits (l .last) (l .s) (to .result) room (to .ensures) levelQ (l .qs) (omega arith)) ∙ l .inv .2 .1),
-      next-phase bits (l .last) (l .s) (to .result) room (to .ensures) ∙ l .inv .3,
+      simp length-set (l .inv .1),
+      simp length-set (l .inv .2),
+      next bits (l .is) (l .qs) (l .last) (l .s) (to .result) (point .result) (i .result) (q .result) (omega arith) (omega arith) (omega arith)
+          (to .ensures) (point .ensures) (i .ensures) (q .ensures) (record { sfits = i .ok }) (record { sfits = q .ok }) ∙ l .inv .3,
     )
 
 returns : tie.Need-returns Inv-loop μ-loop
 returns c =
     let l = c .before .loop in
     let bits = c .before .before .before .args .bits .now in
-    let is = all-levels levelI (l .is) bits (l .last) (l .s) (omega arith) (omega arith) ∙ l .inv .1 .1 in
-    let qs = all-levels levelQ (l .qs) bits (l .last) (l .s) (omega arith) (omega arith) ∙ l .inv .2 .1 in
-    let last = last-phase bits (l .last) (l .s) (omega arith) ∙ l .inv .3 in
-    cc (is, qs, last)
+    sym (done bits (l .is) (l .qs) (l .last) (l .s) (omega arith) (omega arith) (omega arith)) ∙ l .inv .3
 
 pub turn-bits-spec : {M : Type 1} → statement M
 turn-bits-spec =
@@ -149,22 +95,22 @@ turn-bits-spec =
     Inv-loop
     μ-loop
     loop-holds
-    mul-turned
-    shared-slice-read-turned
+    (λ c. search needs)
+    (λ c. search needs)
     mul-turned-2
-    mul-turned-3
-    add-turned
-    shared-slice-read-turned-2
+    (λ c. search needs)
+    (λ c. search needs)
+    (λ c. search needs)
     add-turned-2
-    turned-requires
-    point-requires
-    level-i-requires
-    mul-is
-    array-set-from-is
-    level-q-requires
-    mul-qs
-    array-set-from-qs
-    add-s
-    loop-less
+    (λ c κs. search needs)
+    (λ c κs. search needs)
+    (λ c κs. search needs)
+    (λ c. search needs)
+    (λ c. search needs)
+    (λ c κs. search needs)
+    (λ c. search needs)
+    (λ c. search needs)
+    (λ c. search needs)
+    (λ c. search needs)
     loop-again
     returns)

@@ -1,22 +1,19 @@
 -- `sender_a::sender::block` meets its contract: the checks of `encoder::encode` pass, and the codeword fills the room.
 -- Assumes nothing.
+use mathlib.Core.Path.{refl, _∙_}
+use mathlib.Core.List.{append-nil}
 use native.Mathlib.Omega.{arith}
 use lib.ListN.{replicate}
-use Rattle.sender_a.proofs.Checking.{encoded-whole}
+use Rattle.bch.specs.Codes.{code3}
+use Rattle.bch.proofs.Codewords.{encoded-front}
 use borrow.Author.Needs.{needs}
 use Rattle.sender_a.proofs.sender.block.Statement.{statement}
 use Rattle.sender_a.proofs.sender.block.Tie as tie
 
-slice-aggregate-encode : tie.Need-slice-aggregate-encode
-slice-aggregate-encode c = search needs
-
-encode-requires : tie.Need-encode-requires
-encode-requires c κs = search needs
-
 returns : tie.Need-returns
 returns c =
-    let s = c .before .before .before .before in
-    encoded-whole (s .args .information .now) (replicate 392 0) _ _ (s .pre .0) (s .pre .1) (omega arith) (c .before .encode .ensures)
+    let pre = c .before .before .before .before .pre in
+    encoded-front 3 {c = code3} refl _ (replicate 392 0) _ _ (pre .0) (pre .1) (omega arith) (c .before .encode .ensures) ∙ append-nil _
 
 pub block-spec : {M : Type 1} → statement M
-block-spec = tie.close (tie.spec slice-aggregate-encode encode-requires returns)
+block-spec = tie.close (tie.spec (λ c. search needs) (λ c κs. search needs) returns)

@@ -1,62 +1,30 @@
 -- `sender_a::sender::put_information` meets its contract: the check of the frame's bits stands behind them, and both are scrambled.
 -- Assumes nothing.
-use mathlib.Core.Path.{ap, _∙_}
-use Prim.Native.Nat.{_-_}
+use mathlib.Core.Path.{_≡_, ap, _∙_}
+use mathlib.Core.List.{List, _++_, append-nil}
+use Prim.Native.Nat.{ℕ, _+_, _-_}
 use native.Mathlib.Omega.{arith}
+use borrow.Rule.Slice.PartMut.{putMid}
 use lib.ListN.{length, take}
-use Rattle.payload.specs.Scrambler.{start, scrambled, scrambledFrom}
-use Rattle.payload.proofs.Octets.{bits-there}
-use Rattle.payload.proofs.Informing.{bits-part}
-use Rattle.payload_a.proofs.Checks.{check-read}
-use Rattle.sender_a.proofs.Checking.{check-behind}
+use lib.Seq.{drop-length}
+use Rattle.bits.specs.Words.{digits}
+use Rattle.bits.specs.Bytes.{bitsOf}
+use Rattle.payload.specs.Scrambler.{scrambled}
+use Rattle.payload_a.specs.Check.{checkOf, withCheck}
+use Rattle.bits.proofs.Digits.{lowest-same}
+use Rattle.bits.proofs.Octets.{length-bitsOf, bits-bitsOf, bits-there}
+use Rattle.bits.proofs.Parts.{both-written}
+use Rattle.bits.proofs.Informing.{bits-put}
 use borrow.Author.Needs.{needs}
 use Rattle.sender_a.proofs.sender.put_information.Statement.{statement}
 use Rattle.sender_a.proofs.sender.put_information.Tie as tie
 
-sub-n : tie.Need-sub-n
-sub-n c = search needs
-
-sub-put-bits : tie.Need-sub-put-bits
-sub-put-bits c = search needs
-
-part-put-bits-start : tie.Need-part-put-bits-start
-part-put-bits-start c = search needs
-
-part-put-bits-end : tie.Need-part-put-bits-end
-part-put-bits-end c = search needs
-
-put-bits-requires : tie.Need-put-bits-requires
-put-bits-requires c κs = search needs
-
-sub-check-of : tie.Need-sub-check-of
-sub-check-of c = search needs
-
-part-check-of-start : tie.Need-part-check-of-start
-part-check-of-start c = search needs
-
-part-check-of-end : tie.Need-part-check-of-end
-part-check-of-end c = search needs
-
-check-of-requires : tie.Need-check-of-requires
-check-of-requires c κs = search needs
-
-sub-put-check : tie.Need-sub-put-check
-sub-put-check c = search needs
-
-part-put-check-start : tie.Need-part-put-check-start
-part-put-check-start c = search needs
-
-part-put-check-end : tie.Need-part-put-check-end
-part-put-check-end c = search needs
-
-put-check-requires : tie.Need-put-check-requires
-put-check-requires c κs = search needs
-
-scramble-requires : tie.Need-scramble-requires
-scramble-requires c κs = search needs
-
-same-length : tie.Need-same-length
-same-length c = search needs
+-- the check of bits, put behind them, fills the list
+check-behind : (bits out : List ℕ) (n : ℕ) → length bits ≡ n → n + 32 ≡ length out
+    → putMid n (length out - n) (putMid 0 n out bits) (digits 32 (checkOf bits)) ≡ withCheck bits
+unfolding withCheck
+check-behind bits out n e long =
+    both-written out bits n (length out) e (omega arith) _ ∙ ap (λ (rest : List ℕ). withCheck bits ++ rest) (drop-length out) ∙ append-nil (withCheck bits)
 
 returns : tie.Need-returns
 unfolding scrambled
@@ -65,32 +33,33 @@ returns c =
     let m = k .before .before in
     let p = m .before .before .before .before .before in
     let s = p .before .before .before .before in
+    let frame = s .args .frame .now in
     let out = s .args .out .now in
     let n = length out - 32 in
-    let there = bits-there (s .args .frame .now) (take (n - 0) out) (p .put-bits .ensures) (omega arith) in
-    let check = check-read _ _ (bits-part (s .args .frame .now) out _ there (n - 0) (omega arith)) (m .check-of .ensures) in
-    let all =
-    check-behind (s .args .frame .now) out _ there (n - 0) (omega arith) (s .pre) n (length out - n) _ _ (omega arith) (omega arith)
-    check (k .put-check .ensures) in
-    c .before .before .scramble .ensures .0 ∙ ap (scrambledFrom start) all
+    let whole : n - 0 ≡ n = omega arith in
+    let there = bits-there frame (take (n - 0) out) (p .put-bits .ensures) (omega arith) in
+    let put = bits-put frame out _ there (n - 0) (omega arith) in
+    let read = lowest-same (bitsOf frame) (bits-bitsOf frame) in
+    let all = check-behind (bitsOf frame) out n (length-bitsOf frame ∙ omega arith) (omega arith) in
+    rw (k .put-check .ensures, m .check-of .ensures, put, read, there, whole, all) at (c .before .before .scramble .ensures .0)
 
 pub put-information-spec : {M : Type 1} → statement M
 put-information-spec =
     tie.close
     (tie.spec
-    sub-n
-    sub-put-bits
-    part-put-bits-start
-    part-put-bits-end
-    put-bits-requires
-    sub-check-of
-    part-check-of-start
-    part-check-of-end
-    check-of-requires
-    sub-put-check
-    part-put-check-start
-    part-put-check-end
-    put-check-requires
-    scramble-requires
-    same-length
+    (λ c. search needs)
+    (λ c. search needs)
+    (λ c. search needs)
+    (λ c. search needs)
+    (λ c κs. search needs)
+    (λ c. search needs)
+    (λ c. search needs)
+    (λ c. search needs)
+    (λ c κs. search needs)
+    (λ c. search needs)
+    (λ c. search needs)
+    (λ c. search needs)
+    (λ c κs. search needs)
+    (λ c κs. search needs)
+    (λ c. search needs)
     returns)

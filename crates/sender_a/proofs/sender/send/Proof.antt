@@ -6,12 +6,6 @@ use borrow.Author.Needs.{needs}
 use Rattle.sender_a.proofs.sender.send.Statement.{statement}
 use Rattle.sender_a.proofs.sender.send.Tie as tie
 
-carried-requires : tie.Need-carried-requires
-carried-requires c κs = search needs
-
-slice-aggregate-put-points : tie.Need-slice-aggregate-put-points
-slice-aggregate-put-points c = search needs
-
 put-points-requires : tie.Need-put-points-requires
 put-points-requires c κs =
     let start = c .before .before .before .before .before in
@@ -20,12 +14,6 @@ put-points-requires c κs =
     let p = start .pre in
     let made = c .before .before .before .carried .ensures in
     (rw made (bits-codedA mode frame (p .0) (p .1)), rw made (length-codedA mode frame (p .0) (p .1)), p .2, p .3)
-
-same-length : tie.Need-same-length
-same-length c = search needs
-
-same-length-2 : tie.Need-same-length-2
-same-length-2 c = search needs
 
 returns : tie.Need-returns
 unfolding sentI sentQ pointsA
@@ -38,9 +26,9 @@ pub send-spec : {M : Type 1} → statement M
 send-spec =
     tie.close
     (tie.spec
-    carried-requires
-    slice-aggregate-put-points
+    (λ c κs. search needs)
+    (λ c. search needs)
     put-points-requires
-    same-length
-    same-length-2
+    (λ c. search needs)
+    (λ c. search needs)
     returns)

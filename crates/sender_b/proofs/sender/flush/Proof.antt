@@ -1,105 +1,80 @@
 -- `sender_b::sender::flush` meets its contract: zero bits make up the last OFDM symbol.
 -- Assumes nothing.
-use mathlib.Core.Path.{_≡_, sym, ap, _∙_}
-use mathlib.Core.List.{append-nil}
-use Prim.Native.Nat.{ℕ, _+_, _-_, _*_, _≤_}
+use mathlib.Core.Path.{_≡_, refl, sym, ap, _∙_}
+use mathlib.Core.List.{List, _∷_}
+use Prim.Native.Nat.{ℕ, zero, suc, _+_, _-_, _*_, _%_, _≤_, _<_}
+use native.Mathlib.Nat.{mod-eq-of-lt, mul-add-mod-self-left, mul-mod-right}
 use native.Mathlib.Omega.{arith}
 use lib.ListN.{length, take, replicate, length-replicate}
-use Rattle.payload.proofs.Copies.{bits-zeros}
 use Rattle.payload_b.specs.CodedB.{sumOf}
-use Rattle.payload_b.proofs.Schemes.{sum-whole, sum-least, sum-most}
-use Rattle.sender_b.proofs.Pushing.{div-le, front-zeros, flushed, none-waits}
+use Rattle.payload_b.proofs.Schemes.{sum-least, sum-most}
+use Rattle.sender_b.proofs.Pushing.{pushed-none}
 use borrow.Author.Needs.{needs}
 use Rattle.sender_b.proofs.sender.flush.Statement.{statement}
 use Rattle.sender_b.proofs.sender.flush.Tie as tie
 
--- the bits that fill up
-abbrev start : tie.After-none → tie.Start
-start c = c .before .before .before .before .before .before
+-- zero bits at the front of more
+front-zeros : (k n : ℕ) → k ≤ n → take k (replicate {A = ℕ} n 0) ≡ replicate k 0
+front-zeros zero n l = refl
+front-zeros (suc k) zero l = absurd (omega arith)
+front-zeros (suc k) (suc n) l = ap (λ (w : List ℕ). 0 ∷ w) (front-zeros k n (omega arith))
 
-abbrev left : tie.After-none → ℕ
-left c = c .before .before .sum .result - start c .args .from .count - 0
-
-fills : (c : tie.After-none) → start c .args .from .count + left c ≡ sumOf (start c .args .scheme .now)
-fills c = omega (arith, c .before .before .sum .ensures, sum-whole (start c .pre .0 .1))
-
-zeros : (c : tie.After-none) → take (left c) (c .before .no-bits .result) ≡ replicate (left c) 0
-zeros c =
-    ap (take (left c)) (c .before .no-bits .ensures) ∙ front-zeros (left c) 2100 (omega (arith, fills c, sum-most (start c .pre .0 .1)))
+-- of whole OFDM symbols no part is left
+none-left : (sum a c b : ℕ) → c < sum → sum * a + c ≡ sum * b → c ≡ 0
+none-left sum a c b l e = sym (mod-eq-of-lt l) ∙ sym (mul-add-mod-self-left sum a c) ∙ ap (λ (n : ℕ). n % sum) e ∙ mul-mod-right sum b
 
 returns : tie.Need-returns
 returns c =
     let s = c .before .before .before in
-    let good = s .pre .0 .1 in
-    λ fed is₀ qs₀ u. flushed good fed 0 (rw (sym (append-nil fed)) at u) (omega (arith, sum-least good)) (omega arith)
+    record { zeros = 0; few = omega (arith, sum-least (s .pre .sending .entries)); going = s .args .from; none = c .if1 .taken; pushed = pushed-none _ _ }
 
-sum-requires : tie.Need-sum-requires
-sum-requires c κs = search needs
+-- the bits that fill up
+abbrev start : tie.After-none → tie.Start
+start c = c .before .before .before .before .before
 
-sub-left : tie.Need-sub-left
-sub-left c = omega (arith, sum-whole (c .before .before .before .before .pre .0 .1))
+abbrev left : tie.After-none → ℕ
+left c = start c .args .sum - start c .args .from .count - 0
 
-no-bits-requires : tie.Need-no-bits-requires
-no-bits-requires c κs = search needs
+few : (c : tie.After-none) → left c ≤ 2100
+few c = let s = start c .pre .sending in omega (arith, s .total, sum-most (s .entries))
 
-sub-push : tie.Need-sub-push
-sub-push c = search needs
-
-part-push-start : tie.Need-part-push-start
-part-push-start c = search needs
+fill : (c : tie.After-none) → take (left c) (c .before .no-bits .result) ≡ replicate (left c) 0
+fill c = ap (take (left c)) (c .before .no-bits .ensures) ∙ front-zeros (left c) 2100 (few c)
 
 part-push-end : tie.Need-part-push-end
-part-push-end c = let h = fills c in omega (arith, h, sum-most (start c .pre .0 .1))
+part-push-end c = omega (arith, few c)
 
 push-requires : tie.Need-push-requires
 push-requires c κs =
     let n = c .before .before .before .before in
-    let s = start n in
-    let from = s .args .from in
-    let sum = sumOf (s .args .scheme .now) in
-    let good = s .pre .0 .1 in
-    let long : length (take (left n) (n .before .no-bits .result)) ≡ left n = ap length (zeros n) ∙ length-replicate (left n) 0 in
-    let h = fills n in
-    let fewer : sum * from .symbol + from .count + left n ≤ sum * from .symbol + from .count + (sum - 1) = omega (arith, h) in
-    let room = div-le sum _ _ (omega (arith, sum-least good)) fewer in (
-      (s .pre .0 .0, good, rw (zeros n) (bits-zeros (left n)), s .pre .0 .2, s .pre .0 .3, s .pre .0 .4),
-      (rw long (omega (arith, room, s .pre .1 .0)), rw long (omega (arith, room, s .pre .1 .1))),
-    )
-
-same-length : tie.Need-same-length
-same-length c = search needs
-
-same-length-2 : tie.Need-same-length-2
-same-length-2 c = search needs
-
-same-length-3 : tie.Need-same-length-3
-same-length-3 c = search needs
+    let p = start n .pre in
+    let long : length (take (left n) (n .before .no-bits .result)) ≡ left n = ap length (fill n) ∙ length-replicate (left n) 0 in
+    record { sending = p .sending; wide = p .wide; partial = p .partial; room = λ m l. p .room m (omega (arith, long)) }
 
 returns-2 : tie.Need-returns-2
 returns-2 c =
     let push = c .before .before .before .before in
     let n = push .before .before .before .before .before in
     let s = start n in
-    let from = s .args .from in
-    let good = s .pre .0 .1 in
-    let h = fills n in
-    λ fed is₀ qs₀ u.
-    let after = rw (zeros n) at (push .push .ensures fed is₀ qs₀ u) in
-    flushed good fed (left n) after (omega (arith, h)) (none-waits good fed (left n) after (from .symbol) (from .count) (u .counted) h)
+    let sum = sumOf (s .args .scheme .now) in
+    let total = s .pre .sending .total in
+    let o = push .push .result in
+    let p = rw (fill n) at (push .push .ensures .1) in
+    let whole : sum * o .symbol + o .count ≡ sum * (s .args .from .symbol + 1) = omega (arith, p .counted, total, length-replicate {A = ℕ} (left n) 0) in
+    record { zeros = left n; few = omega (arith, total); going = o; none = none-left sum _ _ _ (push .push .ensures .0) whole; pushed = p }
 
 pub flush-spec : {M : Type 1} → statement M
 flush-spec =
     tie.close
     (tie.spec
     returns
-    sum-requires
-    sub-left
-    no-bits-requires
-    sub-push
-    part-push-start
+    (λ c. search needs)
+    (λ c κs. search needs)
+    (λ c. search needs)
+    (λ c. search needs)
     part-push-end
     push-requires
-    same-length
-    same-length-2
-    same-length-3
+    (λ c. search needs)
+    (λ c. search needs)
+    (λ c. search needs)
     returns-2)

@@ -1,127 +1,90 @@
 -- `sender_b::sender::push` meets its contract: of the bits so far, those that make up OFDM symbols are sent, and the others wait.
 -- Assumes nothing.
-use mathlib.Core.Path.{_≡_, refl}
-use Prim.Native.Nat.{_+_, _-_, _≤_, _<_}
+use mathlib.Core.Path.{_≡_, _∙_}
+use Prim.Native.Nat.{_+_, _-_, _*_, _≤_, _<_}
 use native.Mathlib.Omega.{arith}
-use lib.ListN.{length, getD, length-set}
+use native.Mathlib.Numerals.{add-one}
+use lib.ListN.{length, getD, take}
+use lib.Seq.{take-suc, take-all, length-take-le}
 use Rattle.payload_b.specs.CodedB.{sumOf}
-use Rattle.payload_b.proofs.Schemes.{sum-whole, sum-most}
-use Rattle.sender_b.proofs.Pushing.{Pushed, pushed-none, pushed-waits, pushed-bits, pushed-long, pushed-room, pushed-sends, pushed-all}
+use Rattle.sender_b.specs.Steps.{State, stateOf, Pushed}
+use Rattle.sender_b.proofs.Pushing.{bitIn, pushed-none, pushed-bit, pushed-symbol}
 use borrow.Author.Needs.{needs}
 use Rattle.sender_b.proofs.sender.push.Statement.{statement}
 use Rattle.sender_b.proofs.sender.push.Tie as tie
 
 abbrev Inv-loop : tie.InvT-loop
-Inv-loop cells scheme bits pending₀ i₀ q₀ sum count₀ symbol₀ j₀ pending i q count symbol j =
-    Pushed scheme bits pending₀ i₀ q₀ (record { count = count₀; symbol = symbol₀ }) j pending i q (record { count = count; symbol = symbol })
+Inv-loop cells scheme sum bits pending₀ i₀ q₀ count₀ symbol₀ j₀ pending i q count symbol j =
+    (count < sumOf scheme)
+    × Pushed scheme (take j bits) (stateOf pending₀ i₀ q₀ (record { count = count₀; symbol = symbol₀ }))
+    (stateOf pending i q (record { count = count; symbol = symbol }))
 
 abbrev μ-loop : tie.MeasureT-loop
-μ-loop cells scheme bits pending₀ i₀ q₀ sum count₀ symbol₀ j₀ pending i q count symbol j = length bits - j
-
-sum-requires : tie.Need-sum-requires Inv-loop μ-loop
-sum-requires c κs = search needs
+μ-loop cells scheme sum bits pending₀ i₀ q₀ count₀ symbol₀ j₀ pending i q count symbol j = length bits - j
 
 loop-holds : tie.Need-loop-holds Inv-loop μ-loop
-loop-holds c =
-    let s = c .before .before .before .before in
-    pushed-none (s .args .bits .now) (s .args .i .now) (s .args .q .now) (s .pre .0 .5) (s .pre .0 .3)
+loop-holds c = (search needs, pushed-none _ _)
 
-shared-slice-read-pending : tie.Need-shared-slice-read-pending Inv-loop μ-loop
-shared-slice-read-pending c = search needs
+-- where a bit is put in
+abbrev start : tie.After-shared-slice-known3 Inv-loop μ-loop → tie.Start Inv-loop μ-loop
+start c = c .before .before .before .before .before .before
 
-slice-write-pending : tie.Need-slice-write-pending Inv-loop μ-loop
-slice-write-pending c =
-    let s = c .before .before .before .before .before .before .before in
-    omega (arith, sum-most (s .pre .0 .1), c .before .before .loop .inv .partial, c .before .before .loop .inv .long)
+-- the state with it
+abbrev state : tie.After-shared-slice-known3 Inv-loop μ-loop → State
+state c =
+    let l = c .before .before .loop in
+    bitIn (stateOf (l .pending) (l .i) (l .q) (record { count = l .count; symbol = l .symbol })) (getD (start c .args .bits .now) (l .j) 0)
 
-add-count : tie.Need-add-count Inv-loop μ-loop
-add-count c =
-    let s = c .before .before .before .before .before .before .before in
-    omega (arith, sum-most (s .pre .0 .1), c .before .before .loop .inv .partial)
+pushed : (c : tie.After-shared-slice-known3 Inv-loop μ-loop)
+    → let a = start c .args in
+    Pushed (a .scheme .now) (take (c .before .before .loop .j + 1) (a .bits .now)) (stateOf (a .pending .now) (a .i .now) (a .q .now) (a .from)) (state c)
+pushed c =
+    let l = c .before .before .loop in
+    rw (add-one (l .j), take-suc (start c .args .bits .now) (l .j) 0 (search needs)) (pushed-bit (l .inv .1) _ (search needs))
 
-add-j : tie.Need-add-j Inv-loop μ-loop
-add-j c = search needs
+-- it makes up an OFDM symbol
+abbrev last : tie.After-put-next-arg3 Inv-loop μ-loop → tie.After-shared-slice-known3 Inv-loop μ-loop
+last c = c .before .before .before .before .before
 
-sub-put-next : tie.Need-sub-put-next Inv-loop μ-loop
-sub-put-next c = search needs
-
-part-put-next-start : tie.Need-part-put-next-start Inv-loop μ-loop
-part-put-next-start c = search needs
+room : (c : tie.After-put-next-arg3 Inv-loop μ-loop)
+    → let l = last c .before .before .loop in
+    (256 * (l .symbol + 1) ≤ length (l .i)) × (256 * (l .symbol + 1) ≤ length (l .q))
+room c =
+    let l = last c .before .before .loop in
+    let s = start (last c) in
+    let done = length-take-le (l .j) (s .args .bits .now) (omega arith) in
+    omega (arith, l .inv .1, s .pre .room (l .symbol + 1) (omega (arith, s .pre .sending .total, l .inv .1 .counted, done)))
 
 part-put-next-end : tie.Need-part-put-next-end Inv-loop μ-loop
-part-put-next-end c =
-    let s = c .before .before .before .before .before .before .before .before .before in
-    let l = c .before .before .before .before .loop in
-    omega (arith, sum-whole (s .pre .0 .1), sum-most (s .pre .0 .1), l .inv .long, length-set (l .pending) (l .count) (getD (s .args .bits .now) (l .j) 0))
+part-put-next-end c = let e = c .before .before in omega (arith, pushed e .long, start e .pre .wide)
 
 put-next-requires : tie.Need-put-next-requires Inv-loop μ-loop
 put-next-requires c κs =
-    let s = c .before .before .before .before .before .before .before .before .before .before .before .before in
-    let a = s .args in
-    let l = c .before .before .before .before .before .before .before .loop in
-    let k = c .before .before .before .before .before .before .before .before .sum .result - 0 in
-    let wide : sumOf (a .scheme .now) ≤ length (a .pending .now) = omega (arith, sum-most (s .pre .0 .1), s .pre .0 .4) in
-    let next : l .j < length (a .bits .now) = omega arith in
-    let full : l .count + 1 ≡ sumOf (a .scheme .now) = omega (arith, sum-whole (s .pre .0 .1)) in
-    let same : k ≡ sumOf (a .scheme .now) = omega (arith, sum-whole (s .pre .0 .1)) in
-    let room = pushed-room (l .inv) (s .pre .0 .1) (s .pre .0 .2) wide next full k same in (
-      (
-        s .pre .0 .0,
-        s .pre .0 .1,
-        pushed-bits (l .inv) (s .pre .0 .1) (s .pre .0 .2) wide next full k same,
-        pushed-long (l .inv) (s .pre .0 .1) (s .pre .0 .2) wide next full k same,
-      ),
-      (room (length (l .i)) (rw (l .inv .long-i) (s .pre .1 .0)), room (length (l .q)) (rw (l .inv .long-q) (s .pre .1 .1))),
-    )
+    let e = last c in
+    let p = start e .pre in
+    let long = length-take-le (start e .args .sum - 0) (state e .pending) (omega (arith, pushed e .long, p .wide)) in
+    (record { lent = p .sending .lent; entries = p .sending .entries; total = long ∙ omega (arith, p .sending .total) }, omega (arith, room c))
 
 add-symbol : tie.Need-add-symbol Inv-loop μ-loop
-add-symbol c =
-    let s = c .before .before .before .before .before .before .before .before .before .before .before .before .before .before .before in
-    let a = s .args in
-    let l = c .before .before .before .before .before .before .before .before .before .before .loop in
-    let wide : sumOf (a .scheme .now) ≤ length (a .pending .now) = omega (arith, sum-most (s .pre .0 .1), s .pre .0 .4) in
-    let next : l .j < length (a .bits .now) = omega arith in
-    let full : l .count + 1 ≡ sumOf (a .scheme .now) = omega (arith, sum-whole (s .pre .0 .1)) in
-    omega (arith, pushed-room (l .inv) (s .pre .0 .1) (s .pre .0 .2) wide next full (sumOf (a .scheme .now)) refl (length (a .i .now)) (s .pre .1 .0))
-
-loop-less : tie.Need-loop-less Inv-loop μ-loop
-loop-less c = search needs
+add-symbol c = omega (arith, room (c .before .before .before))
 
 loop-again : tie.Need-loop-again Inv-loop μ-loop
 loop-again c =
-    let s = c .before .before .before .before .before .before .before .before .before .before .before .before .before .before .before in
-    let a = s .args in
-    let l = c .before .before .before .before .before .before .before .before .before .before .loop in
-    let k = c .before .before .before .before .before .before .before .before .before .before .before .sum .result - 0 in
-    let put = c .before .before .put-next .ensures in
-    let wide : sumOf (a .scheme .now) ≤ length (a .pending .now) = omega (arith, sum-most (s .pre .0 .1), s .pre .0 .4) in
-    let next : l .j < length (a .bits .now) = omega arith in
-    let full : l .count + 1 ≡ sumOf (a .scheme .now) = omega (arith, sum-whole (s .pre .0 .1)) in
-    let same : k ≡ sumOf (a .scheme .now) = omega (arith, sum-whole (s .pre .0 .1)) in
-    pushed-sends (l .inv) (s .pre .0 .1) (s .pre .0 .2) wide next full k same _ _ (omega arith) (omega arith) (put .0) (put .1)
-
-loop-less-2 : tie.Need-loop-less-2 Inv-loop μ-loop
-loop-less-2 c = search needs
+    let e = last (c .before .before .before) in
+    let p = start e .pre in
+    let same : start e .args .sum - 0 ≡ e .before .before .loop .count + 1 = omega arith in
+    let put = rw same at (c .before .before .put-next .ensures) in (
+      omega (arith, p .partial),
+      pushed-symbol (pushed e) (p .sending .entries) (omega (arith, p .sending .total)) (omega arith) (put .0) (put .1),
+    )
 
 loop-again-2 : tie.Need-loop-again-2 Inv-loop μ-loop
-loop-again-2 c =
-    let s = c .before .before .before .before .before .before .before .before in
-    let a = s .args in
-    let l = c .before .before .before .loop in
-    let wide : sumOf (a .scheme .now) ≤ length (a .pending .now) = omega (arith, sum-most (s .pre .0 .1), s .pre .0 .4) in
-    pushed-waits (l .inv) (s .pre .0 .1) (s .pre .0 .2) wide (omega arith) (omega (arith, sum-whole (s .pre .0 .1), l .inv .partial))
-
-same-length : tie.Need-same-length Inv-loop μ-loop
-same-length c = search needs
-
-same-length-2 : tie.Need-same-length-2 Inv-loop μ-loop
-same-length-2 c = search needs
-
-same-length-3 : tie.Need-same-length-3 Inv-loop μ-loop
-same-length-3 c = search needs
+loop-again-2 c = (omega arith, pushed (c .before))
 
 returns : tie.Need-returns Inv-loop μ-loop
-returns c = pushed-all (c .before .loop .inv) (omega arith)
+returns c =
+    let l = c .before .loop in
+    (l .inv .0, rw (take-all (l .j) (c .before .before .before .before .before .args .bits .now) (omega arith)) at (l .inv .1))
 
 pub push-spec : {M : Type 1} → statement M
 push-spec =
@@ -129,22 +92,21 @@ push-spec =
     (tie.spec
     Inv-loop
     μ-loop
-    sum-requires
     loop-holds
-    shared-slice-read-pending
-    slice-write-pending
-    add-count
-    add-j
-    sub-put-next
-    part-put-next-start
+    (λ c. search needs)
+    (λ c. search needs)
+    (λ c. search needs)
+    (λ c. search needs)
+    (λ c. search needs)
+    (λ c. search needs)
     part-put-next-end
     put-next-requires
     add-symbol
-    loop-less
+    (λ c. search needs)
     loop-again
-    loop-less-2
+    (λ c. search needs)
     loop-again-2
-    same-length
-    same-length-2
-    same-length-3
+    (λ c. search needs)
+    (λ c. search needs)
+    (λ c. search needs)
     returns)

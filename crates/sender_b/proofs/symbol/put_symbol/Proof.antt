@@ -1,213 +1,133 @@
--- `sender_b::symbol::put_symbol` meets its contract: what is written so far are the levels of the first s points.
+-- `sender_b::symbol::put_symbol` meets its contract: what is written so far, then the levels of what is left of the bits.
 -- Assumes nothing.
-use mathlib.Core.Path.{_≡_, refl, sym, ap, _∙_}
-use mathlib.Core.List.{List, map, map-append}
+use mathlib.Core.Path.{_≡_, sym, ap, _∙_}
+use mathlib.Core.List.{List, _∷_, _++_, map, append-nil, append-assoc}
 use Prim.Native.Nat.{ℕ, _+_, _-_, _≤_, _<_}
 use native.Mathlib.Omega.{arith}
 use native.Mathlib.Numerals.{add-one}
 use lib.IntN.{ℤ}
-use lib.ListN.{length, getD, set, take, drop, length-set}
-use lib.Seq.{take-all, take-suc-set}
+use lib.ListN.{length, getD, set, take, drop, length-set, drop-of-length-le}
+use lib.Seq.{take-all, take-suc-set, drop-cons, drop-drop}
 use mir.Syntax.{w16}
-use mir.Val.{toZ, ofZ}
 use mir.ValLaws.{toZ-ofZ}
+use Rattle.bits.specs.Bytes.{asNumber}
+use Rattle.bits.proofs.Copies.{part-long}
+use Rattle.bits.proofs.Numbers.{number-low, number-fits}
 use Rattle.points.specs.declared.Point.{Point}
 use Rattle.points.specs.Constellations.{pointOf, levelI, levelQ}
 use Rattle.points.proofs.Lending.{point-ours}
-use Rattle.payload.specs.Grids.{spread}
-use Rattle.payload.specs.Bits.{number}
+use Rattle.symbols.specs.Grids.{spread}
+use Rattle.symbols.proofs.Placings.{levels-there}
 use Rattle.payload_b.specs.CodedB.{sumOf, mapped}
-use Rattle.payload_b.specs.PlanB.{Scheme}
-use Rattle.payload.proofs.Copies.{part-long}
-use Rattle.payload.proofs.Numbers.{number-low, number-fits}
-use Rattle.payload.proofs.Placings.{levels-there}
-use Rattle.payload_b.proofs.Schemes.{entry-in, sum-most, sum-nil, sum-snoc, entry-end}
-use Rattle.sender_b.proofs.Mapped.{mapped-snoc}
+use Rattle.payload_b.proofs.Schemes.{entry-in}
 use borrow.Author.Needs.{needs}
 use Rattle.sender_b.proofs.symbol.put_symbol.Statement.{statement}
 use Rattle.sender_b.proofs.symbol.put_symbol.Tie as tie
 
--- the bits of the entry s are there
-room : {scheme : List ℕ} (s at : ℕ) → Scheme scheme → s < 210 → at ≡ sumOf (take s scheme) → at + getD scheme s 0 ≤ sumOf scheme
-room {scheme} s at good h e = omega (arith, entry-end scheme s (omega (arith, good .long)))
-
--- as many as it says
-part : (bits : List ℕ) (at n k : ℕ) → k ≡ n → at + n ≤ length bits → length (take k (drop at bits)) ≡ n
-part bits at n k e fits = rw e (part-long at n bits fits)
-
--- the levels of the first s points are written
-abbrev Written : (Point → ℤ) → List ℕ → List ℕ → List ℤ → ℕ → Type 0
-Written level scheme bits levels s = (length levels ≡ 210) × (take s levels ≡ map level (mapped (take s scheme) bits))
-
--- the point of n bits that k bits from `at` on stand for
-abbrev pointFrom : ℕ → ℕ → ℕ → List ℕ → Point
-pointFrom n at k bits = pointOf n (number (take k (drop at bits)))
+-- the levels of the first s points are written, with the bits before `at`
+abbrev Written : (Point → ℤ) → List ℕ → List ℕ → List ℤ → ℕ → ℕ → Type 0
+Written level scheme bits levels at s =
+    (length levels ≡ 210) × (take s levels ++ map level (mapped (drop s scheme) (drop at bits)) ≡ map level (mapped scheme bits))
 
 -- a turn: one point more
-turn : (level : Point → ℤ) (scheme bits : List ℕ) (levels : List ℤ) (s at k : ℕ) (x : ℤ) → s < 210 → length scheme ≡ 210 → at ≡ sumOf (take s scheme)
-    → k ≡ getD scheme s 0 → x ≡ level (pointFrom (getD scheme s 0) at k bits) → Written level scheme bits levels s
-    → Written level scheme bits (set levels s x) (s + 1)
-turn level scheme bits levels s at k x h long ea ek ex w = (
-  length-set levels s x ∙ w .0,
-  rw (add-one s, take-suc-set levels s x (omega (arith, w .0)), w .1, ex, ek, ea, mapped-snoc scheme bits s (omega arith))
-      (sym (map-append level (mapped (take s scheme) bits) _)),
-)
+module _ (scheme bits : List ℕ) (s at : ℕ) (h : s < length scheme) where
+  next : drop s scheme ≡ getD scheme s 0 ∷ drop (s + 1) scheme
+  next = rw (add-one s) (drop-cons scheme s 0 h)
+
+  -- its bits are there
+  behind : at + sumOf (drop s scheme) ≡ length bits → at + getD scheme s 0 + sumOf (drop (s + 1) scheme) ≡ length bits
+  unfolding sumOf
+  behind e = let all = rw next at e in omega (arith, all)
+
+  turn : (level : Point → ℤ) (levels : List ℤ) (x : ℤ) → s < length levels
+      → x ≡ level (pointOf (getD scheme s 0) (asNumber (take (getD scheme s 0) (drop at bits))))
+      → Written level scheme bits levels at s → Written level scheme bits (set levels s x) (at + getD scheme s 0) (s + 1)
+  unfolding mapped
+  turn level levels x l e w = (
+    length-set levels s x ∙ w .0,
+    rw (add-one s, take-suc-set levels s x l, e, append-assoc) (rw (next, add-one s, drop-drop (getD scheme s 0) at bits) at (w .1)),
+  )
 
 -- the end: all points are written
-done : (level : Point → ℤ) (scheme bits : List ℕ) (levels : List ℤ) (s : ℕ) → 210 ≤ s → length scheme ≡ 210 → Written level scheme bits levels s
+done : (level : Point → ℤ) (scheme bits : List ℕ) (levels : List ℤ) (at s : ℕ) → 210 ≤ s → length scheme ≡ 210 → Written level scheme bits levels at s
     → levels ≡ map level (mapped scheme bits)
-done level scheme bits levels s h long w =
-    sym (take-all s levels (omega (arith, w .0))) ∙ w .1 ∙ ap (λ (ns : List ℕ). map level (mapped ns bits)) (take-all s scheme (omega arith))
+unfolding mapped
+done level scheme bits levels at s h long w =
+    sym (append-nil levels) ∙ (rw (take-all s levels (omega (arith, w .0)), drop-of-length-le scheme {i = s} (omega arith)) at (w .1))
 
 abbrev Inv-loop : tie.InvT-loop
 Inv-loop cells scheme bits i q is₀ qs₀ at₀ s₀ is qs at s =
-    (s ≤ 210) × (at ≡ sumOf (take s scheme)) × Written levelI scheme bits is s × Written levelQ scheme bits qs s
+    (at + sumOf (drop s scheme) ≡ length bits) × Written levelI scheme bits is at s × Written levelQ scheme bits qs at s
 
 abbrev μ-loop : tie.MeasureT-loop
 μ-loop cells scheme bits i q is₀ qs₀ at₀ s₀ is qs at s = 210 - s
 
-abbrev start : tie.After-point-in Inv-loop μ-loop → tie.Start Inv-loop μ-loop
-start c = c .before .before .before .before .before .before .before .before
+-- where an entry is read
+abbrev start : tie.After-shared-slice-known3 Inv-loop μ-loop → tie.Start Inv-loop μ-loop
+start c = c .before .before .before .before .before
 
--- the point that is made is that of the entry s
-abbrev pointOn : tie.After-point-in Inv-loop μ-loop → Point
-pointOn c =
-    let l = c .before .before .before .before .before .loop in
-    let n = getD (start c .args .scheme .now) (l .s) 0 in
-    pointFrom n (l .at) (l .at + n - l .at) (start c .args .bits .now)
+abbrev size : tie.After-shared-slice-known3 Inv-loop μ-loop → ℕ
+size c = getD (start c .args .scheme .now) (c .before .before .loop .s) 0
 
--- the number of an entry's bits is read whole
-read : (c : tie.After-number Inv-loop μ-loop)
-    → let l = c .before .before .before .before .loop in
-    let a = c .before .before .before .before .before .before .before .args in
-    let n = getD (a .scheme .now) (l .s) 0 in
-    let bits = take (l .at + n - l .at) (drop (l .at) (a .bits .now)) in
-    (c .number .result ≡ number bits) × (c .number .result < 1024)
+ends : (c : tie.After-shared-slice-known3 Inv-loop μ-loop)
+    → let l = c .before .before .loop in
+    l .at + size c + sumOf (drop (l .s + 1) (start c .args .scheme .now)) ≡ length (start c .args .bits .now)
+ends c =
+    let l = c .before .before .loop in
+    behind (start c .args .scheme .now) (start c .args .bits .now) (l .s) (l .at) (omega (arith, start c .pre .0 .entries .long)) (l .inv .0)
+
+-- the bits of the entry, and the number that they are the digits of
+abbrev bitsOn : tie.After-shared-slice-known3 Inv-loop μ-loop → List ℕ
+bitsOn c = take (size c) (drop (c .before .before .loop .at) (start c .args .bits .now))
+
+read : (c : tie.After-as-number Inv-loop μ-loop) → (c .as-number .result ≡ asNumber (bitsOn (c .before .before))) × (c .as-number .result < 1024)
 read c =
-    let l = c .before .before .before .before .loop in
-    let s = c .before .before .before .before .before .before .before in
-    let all = s .args .bits .now in
-    let n = getD (s .args .scheme .now) (l .s) 0 in
-    let good = s .pre .0 .1 in
-    let fits : l .at + n ≤ length all = omega (arith, room (l .s) (l .at) good (omega arith) (l .inv .1), s .pre .0 .3) in
-    let bits = take (l .at + n - l .at) (drop (l .at) all) in
-    let long = part all (l .at) n (l .at + n - l .at) (omega arith) fits in
-    let few : length bits ≤ 10 = omega (arith, long, entry-in good (l .s) (omega arith) .1) in
-    let e : c .number .result ≡ number bits = c .number .ensures ∙ number-fits bits (omega (arith, few)) in
-    (e, omega (arith, e, number-low 10 bits few))
+    let e = c .before .before in
+    let l = e .before .before .loop in
+    let same : l .at + size e - l .at ≡ size e = omega arith in
+    let fits = ends e in
+    let long = part-long (l .at) (size e) (start e .args .bits .now) (omega (arith, fits)) in
+    let few : length (bitsOn e) ≤ 10 = omega (arith, long, entry-in (start e .pre .0 .entries) (l .s) (omega arith) .1) in
+    let is : c .as-number .result ≡ asNumber (bitsOn e) = (rw same at (c .as-number .ensures)) ∙ number-fits (bitsOn e) (omega (arith, few)) in
+    (is, omega (arith, is, number-low 10 (bitsOn e) few))
 
-made : (c : tie.After-point-in Inv-loop μ-loop) → c .point-in .result ≡ pointOn c
-made c = (rw (start c .pre .0 .0, read (c .before) .0) at (c .point-in .ensures)) ∙ point-ours _ _
-
-loop-holds : tie.Need-loop-holds Inv-loop μ-loop
-unfolding mapped
-loop-holds c = (omega arith, sym sum-nil, (refl, refl), (refl, refl))
-
-shared-slice-read-n : tie.Need-shared-slice-read-n Inv-loop μ-loop
-shared-slice-read-n c = search needs
+-- the point that is made
+made : (c : tie.After-point-in Inv-loop μ-loop)
+    → let e = c .before .before .before in
+    c .point-in .result ≡ pointOf (size e) (asNumber (bitsOn e))
+made c = (rw (start (c .before .before .before) .pre .0 .lent, read (c .before) .0) at (c .point-in .ensures)) ∙ point-ours _ _
 
 cast-end : tie.Need-cast-end Inv-loop μ-loop
 cast-end c = omega (arith, c .shared-slice-known3 .given (c .before .before .loop .s))
 
 add-end : tie.Need-add-end Inv-loop μ-loop
-add-end c =
-    let l = c .before .before .loop in
-    let s = c .before .before .before .before .before in
-    omega (arith, room (l .s) (l .at) (s .pre .0 .1) (omega arith) (l .inv .1), sum-most (s .pre .0 .1))
+add-end c = omega (arith, ends c)
 
-sub-number : tie.Need-sub-number Inv-loop μ-loop
-sub-number c = search needs
-
-part-number-start : tie.Need-part-number-start Inv-loop μ-loop
-part-number-start c = search needs
-
-part-number-end : tie.Need-part-number-end Inv-loop μ-loop
-part-number-end c =
-    let l = c .before .before .loop in
-    let s = c .before .before .before .before .before in
-    omega (arith, room (l .s) (l .at) (s .pre .0 .1) (omega arith) (l .inv .1), s .pre .0 .3)
-
-number-requires : tie.Need-number-requires Inv-loop μ-loop
-number-requires c κs = search needs
+part-as-number-end : tie.Need-part-as-number-end Inv-loop μ-loop
+part-as-number-end c = omega (arith, ends c)
 
 cast-label : tie.Need-cast-label Inv-loop μ-loop
 cast-label c = let low = read c .1 in omega (arith, low)
 
-point-in-requires : tie.Need-point-in-requires Inv-loop μ-loop
-point-in-requires c κs = search needs
-
-level-i-requires : tie.Need-level-i-requires Inv-loop μ-loop
-level-i-requires c κs = search needs
-
-mul-is : tie.Need-mul-is Inv-loop μ-loop
-mul-is c = search needs
-
-array-set-from-is : tie.Need-array-set-from-is Inv-loop μ-loop
-array-set-from-is c = search needs
-
-level-q-requires : tie.Need-level-q-requires Inv-loop μ-loop
-level-q-requires c κs = search needs
-
-mul-qs : tie.Need-mul-qs Inv-loop μ-loop
-mul-qs c = search needs
-
-array-set-from-qs : tie.Need-array-set-from-qs Inv-loop μ-loop
-array-set-from-qs c = search needs
-
-add-s : tie.Need-add-s Inv-loop μ-loop
-add-s c = search needs
-
-loop-less : tie.Need-loop-less Inv-loop μ-loop
-loop-less c = search needs
-
 loop-again : tie.Need-loop-again Inv-loop μ-loop
 loop-again c =
-    let l = c .before .before .before .before .before .before .before .loop in
     let point = c .before .before in
-    let scheme = start point .args .scheme .now in
-    let bits = start point .args .bits .now in
-    let good = start point .pre .0 .1 in
-    let n = getD scheme (l .s) 0 in
-    let k = l .at + n - l .at in
-    let sum : l .at + n ≡ sumOf (take (l .s + 1) scheme) = rw (add-one (l .s), sum-snoc scheme (l .s) (omega (arith, good .long))) (omega (arith, l .inv .1)) in
-    let i : toZ w16 (ofZ w16 (c .before .level-i .result)) ≡ levelI (pointOn point)
-    = toZ-ofZ w16 _ (record { sfits = c .before .level-i .ok }) ∙ c .before .level-i .ensures ∙ ap levelI (made point) in
-    let q : toZ w16 (ofZ w16 (c .level-q .result)) ≡ levelQ (pointOn point)
-    = toZ-ofZ w16 _ (record { sfits = c .level-q .ok }) ∙ c .level-q .ensures ∙ ap levelQ (made point) in (
-      omega arith,
-      sum,
-      turn levelI scheme bits (l .is) (l .s) (l .at) k _ (omega arith) (good .long) (l .inv .1) (omega arith) i (l .inv .2),
-      turn levelQ scheme bits (l .qs) (l .s) (l .at) k _ (omega arith) (good .long) (l .inv .1) (omega arith) q (l .inv .3),
-    )
-
-slice-aggregate-put-levels : tie.Need-slice-aggregate-put-levels Inv-loop μ-loop
-slice-aggregate-put-levels c = sym (c .before .before .loop .inv .2 .0)
-
-put-levels-requires : tie.Need-put-levels-requires Inv-loop μ-loop
-put-levels-requires c κs = search needs
-
-slice-aggregate-put-levels-2 : tie.Need-slice-aggregate-put-levels-2 Inv-loop μ-loop
-slice-aggregate-put-levels-2 c = sym (c .before .before .before .before .before .before .loop .inv .3 .0)
-
-put-levels-requires-2 : tie.Need-put-levels-requires-2 Inv-loop μ-loop
-put-levels-requires-2 c κs = search needs
-
-same-length : tie.Need-same-length Inv-loop μ-loop
-same-length c = search needs
-
-same-length-2 : tie.Need-same-length-2 Inv-loop μ-loop
-same-length-2 c = search needs
+    let e = point .before .before .before in
+    let l = e .before .before .loop in
+    let one = turn (start e .args .scheme .now) (start e .args .bits .now) (l .s) (l .at) (omega (arith, start e .pre .0 .entries .long)) in
+    let i = toZ-ofZ w16 _ (record { sfits = c .before .level-i .ok }) ∙ c .before .level-i .ensures ∙ ap levelI (made point) in
+    let q = toZ-ofZ w16 _ (record { sfits = c .level-q .ok }) ∙ c .level-q .ensures ∙ ap levelQ (made point) in
+    (ends e, one levelI (l .is) _ (omega arith) i (l .inv .1), one levelQ (l .qs) _ (omega arith) q (l .inv .2))
 
 returns : tie.Need-returns Inv-loop μ-loop
 returns c =
-    let l = c .before .before .before .before .before .before .before .before .before .loop in
-    let s = c .before .before .before .before .before .before .before .before .before .before .before .before in
-    let scheme = s .args .scheme .now in
-    let bits = s .args .bits .now in
-    let good = s .pre .0 .1 in (
-      levels-there (l .is) (s .args .i .now) (c .before .before .before .before .before .put-levels .ensures) (s .pre .1 .0)
-          ∙ ap spread (done levelI scheme bits (l .is) (l .s) (omega arith) (good .long) (l .inv .2)),
-      levels-there (l .qs) (s .args .q .now) (c .before .put-levels2 .ensures) (s .pre .1 .1) ∙ ap spread (done levelQ scheme bits (l .qs) (l .s) (omega arith) (good .long) (l .inv .3)),
+    let first = c .before .before .before .before .before in
+    let l = first .before .before .before .before .loop in
+    let s = first .before .before .before .before .before .before .before in
+    let is = done levelI (s .args .scheme .now) (s .args .bits .now) (l .is) (l .at) (l .s) (omega arith) (s .pre .0 .entries .long) (l .inv .1) in
+    let qs = done levelQ (s .args .scheme .now) (s .args .bits .now) (l .qs) (l .at) (l .s) (omega arith) (s .pre .0 .entries .long) (l .inv .2) in (
+      levels-there (l .is) (s .args .i .now) (first .put-levels .ensures) (s .pre .1 .0) ∙ ap spread is,
+      levels-there (l .qs) (s .args .q .now) (c .before .put-levels2 .ensures) (s .pre .1 .1) ∙ ap spread qs,
     )
 
 pub put-symbol-spec : {M : Type 1} → statement M
@@ -216,29 +136,29 @@ put-symbol-spec =
     (tie.spec
     Inv-loop
     μ-loop
-    loop-holds
-    shared-slice-read-n
+    (λ c. search needs)
+    (λ c. search needs)
     cast-end
     add-end
-    sub-number
-    part-number-start
-    part-number-end
-    number-requires
+    (λ c. search needs)
+    (λ c. search needs)
+    part-as-number-end
+    (λ c κs. search needs)
     cast-label
-    point-in-requires
-    level-i-requires
-    mul-is
-    array-set-from-is
-    level-q-requires
-    mul-qs
-    array-set-from-qs
-    add-s
-    loop-less
+    (λ c κs. search needs)
+    (λ c κs. search needs)
+    (λ c. search needs)
+    (λ c. search needs)
+    (λ c κs. search needs)
+    (λ c. search needs)
+    (λ c. search needs)
+    (λ c. search needs)
+    (λ c. search needs)
     loop-again
-    slice-aggregate-put-levels
-    put-levels-requires
-    slice-aggregate-put-levels-2
-    put-levels-requires-2
-    same-length
-    same-length-2
+    (λ c. search needs)
+    (λ c κs. search needs)
+    (λ c. search needs)
+    (λ c κs. search needs)
+    (λ c. search needs)
+    (λ c. search needs)
     returns)

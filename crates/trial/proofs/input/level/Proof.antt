@@ -26,18 +26,6 @@ read c =
     let e : n ≡ 65536 - suc (65535 - n) = omega arith in
     ap (toZ w16) e ∙ toZ-neg w16 (65535 - n) (omega arith)
 
-cast-result : tie.Need-cast-result
-cast-result c = search needs
-
-returns : tie.Need-returns
-returns c = search needs
-
-sub-result : tie.Need-sub-result
-sub-result c = search needs
-
-cast-result-2 : tie.Need-cast-result-2
-cast-result-2 c = search needs
-
 sub-result-2 : tie.Need-sub-result-2
 sub-result-2 c = rw (negated c) (negated-fits c)
 
@@ -46,4 +34,4 @@ returns-2 c = rw (negated c) (toZ-ofZ w16 _ (negated-fits c) ∙ sym (read c))
 
 pub level-spec : {M : Type 1} → statement M
 level-spec =
-    tie.close (tie.spec cast-result returns sub-result cast-result-2 sub-result-2 returns-2)
+    tie.close (tie.spec (λ c. search needs) (λ c. search needs) (λ c. search needs) (λ c. search needs) sub-result-2 returns-2)

@@ -13,8 +13,8 @@ use mir.Syntax.{w16}
 use mir.Val.{toZ, ofZ}
 use mir.ValLaws.{toZ-ofZ}
 use borrow.Author.Needs.{needs}
-use Rattle.payload.proofs.Copies.{part-long}
-use Rattle.trial.specs.Format.{value, unpacked}
+use Rattle.bits.proofs.Copies.{part-long}
+use Rattle.trial.specs.Format.{value, levelsIn}
 use Rattle.trial.proofs.input.unpack.Statement.{statement}
 use Rattle.trial.proofs.input.unpack.Tie as tie
 
@@ -25,15 +25,15 @@ two-long bytes i k two room = rw two (part-long (i * 2) 2 bytes room)
 -- a turn: the level of that part stands at i
 turn : (bytes : List ℕ) (levels : List ℤ) (n i k v : ℕ) (x : ℤ) → i < n → i < length levels → k ≡ 2
     → v ≡ value (take k (drop (i * 2) bytes)) → x ≡ toZ w16 v
-    → take (i + 1) (set levels i x) ++ unpacked (n - (i + 1)) (drop ((i + 1) * 2) bytes) ≡ take i levels ++ unpacked (n - i) (drop (i * 2) bytes)
-unfolding unpacked
+    → take (i + 1) (set levels i x) ++ levelsIn (n - (i + 1)) (drop ((i + 1) * 2) bytes) ≡ take i levels ++ levelsIn (n - i) (drop (i * 2) bytes)
+unfolding levelsIn
 turn bytes levels n i k v x h l two ev ex =
     let s : n - i ≡ suc (n - (i + 1)) = omega arith in
     let end : (i + 1) * 2 ≡ i * 2 + 2 = omega arith in
     rw (s, end, add-one, take-suc-set levels i x l, append-assoc, drop-drop 2 (i * 2) bytes, ex, ev, two)
 
-done : (bytes : List ℕ) (levels : List ℤ) (n i : ℕ) → length levels ≤ i → n ≤ i → levels ≡ take i levels ++ unpacked (n - i) (drop (i * 2) bytes)
-unfolding unpacked
+done : (bytes : List ℕ) (levels : List ℤ) (n i : ℕ) → length levels ≤ i → n ≤ i → levels ≡ take i levels ++ levelsIn (n - i) (drop (i * 2) bytes)
+unfolding levelsIn
 done bytes levels n i l h =
     let s : n - i ≡ 0 = omega arith in
     rw (s, take-all i levels l) (sym (append-nil levels))
@@ -41,7 +41,7 @@ done bytes levels n i l h =
 abbrev Inv-loop : tie.InvT-loop
 Inv-loop bytes levels₀ i₀ levels i =
     (i ≤ length levels₀) × (length levels ≡ length levels₀)
-    × (take i levels ++ unpacked (length levels₀ - i) (drop (i * 2) bytes) ≡ unpacked (length levels₀) bytes)
+    × (take i levels ++ levelsIn (length levels₀ - i) (drop (i * 2) bytes) ≡ levelsIn (length levels₀) bytes)
 
 abbrev μ-loop : tie.MeasureT-loop
 μ-loop bytes levels₀ i₀ levels i = length levels₀ - i
@@ -49,22 +49,7 @@ abbrev μ-loop : tie.MeasureT-loop
 loop-holds : tie.Need-loop-holds Inv-loop μ-loop
 loop-holds c =
     let s = c .before .args in
-    (omega arith, refl, ap (λ (k : ℕ). unpacked k (s .bytes .now)) (sub-zero (length (s .levels .now))))
-
-mul-at : tie.Need-mul-at Inv-loop μ-loop
-mul-at c = search needs
-
-add-value : tie.Need-add-value Inv-loop μ-loop
-add-value c = search needs
-
-sub-value : tie.Need-sub-value Inv-loop μ-loop
-sub-value c = search needs
-
-part-value-start : tie.Need-part-value-start Inv-loop μ-loop
-part-value-start c = search needs
-
-part-value-end : tie.Need-part-value-end Inv-loop μ-loop
-part-value-end c = search needs
+    (omega arith, refl, ap (λ (k : ℕ). levelsIn k (s .bytes .now)) (sub-zero (length (s .levels .now))))
 
 value-requires : tie.Need-value-requires Inv-loop μ-loop
 value-requires c κs =
@@ -78,18 +63,6 @@ level-requires c κs =
     let n = two-long (c .before .before .before .before .before .args .bytes .now) (l .i) (l .i * 2 + 2 - l .i * 2) (omega arith) (omega arith) in
     rw n at (c .value .ensures .1)
 
-mul-t13 : tie.Need-mul-t13 Inv-loop μ-loop
-mul-t13 c = search needs
-
-slice-set-from-levels : tie.Need-slice-set-from-levels Inv-loop μ-loop
-slice-set-from-levels c = search needs
-
-add-i : tie.Need-add-i Inv-loop μ-loop
-add-i c = search needs
-
-loop-less : tie.Need-loop-less Inv-loop μ-loop
-loop-less c = search needs
-
 loop-again : tie.Need-loop-again Inv-loop μ-loop
 loop-again c =
     let l = c .before .before .before .before .loop in
@@ -100,9 +73,6 @@ loop-again c =
     let v = c .before .value .ensures .0 in
     let t = turn (s .bytes .now) (l .levels) (length (s .levels .now)) (l .i) k _ _ (omega arith) (omega arith) (omega arith) v x in
     (omega arith, simp length-set (l .inv .1), t ∙ l .inv .2)
-
-same-length : tie.Need-same-length Inv-loop μ-loop
-same-length c = search needs
 
 returns : tie.Need-returns Inv-loop μ-loop
 returns c =
@@ -116,17 +86,17 @@ unpack-spec =
     Inv-loop
     μ-loop
     loop-holds
-    mul-at
-    add-value
-    sub-value
-    part-value-start
-    part-value-end
+    (λ c. search needs)
+    (λ c. search needs)
+    (λ c. search needs)
+    (λ c. search needs)
+    (λ c. search needs)
     value-requires
     level-requires
-    mul-t13
-    slice-set-from-levels
-    add-i
-    loop-less
+    (λ c. search needs)
+    (λ c. search needs)
+    (λ c. search needs)
+    (λ c. search needs)
     loop-again
-    same-length
+    (λ c. search needs)
     returns)

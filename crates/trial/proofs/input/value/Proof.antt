@@ -42,17 +42,11 @@ loop-holds c =
     let s = c .args .bytes .now in
     (omega arith, rw (sub-self (length s)) (lit< tt), rw (drop-length s))
 
-sub-i : tie.Need-sub-i Inv-loop μ-loop
-sub-i c = search needs
-
 mul-n : tie.Need-mul-n Inv-loop μ-loop
 mul-n c =
     let l = c .before .loop in
     let h = fits (l .n) _ (l .inv .1) 7 (omega arith) in
     omega arith
-
-shared-slice-read-n : tie.Need-shared-slice-read-n Inv-loop μ-loop
-shared-slice-read-n c = search needs
 
 cast-n : tie.Need-cast-n Inv-loop μ-loop
 cast-n c = omega (arith, c .shared-slice-known .given (c .before .before .loop .i - 1))
@@ -62,9 +56,6 @@ add-n c =
     let l = c .before .before .loop in
     let h = fits (l .n) _ (l .inv .1) 7 (omega arith) in
     omega (arith, c .shared-slice-known .given (l .i - 1))
-
-loop-less : tie.Need-loop-less Inv-loop μ-loop
-loop-less c = search needs
 
 loop-again : tie.Need-loop-again Inv-loop μ-loop
 loop-again c =
@@ -88,11 +79,11 @@ value-spec =
     Inv-loop
     μ-loop
     loop-holds
-    sub-i
+    (λ c. search needs)
     mul-n
-    shared-slice-read-n
+    (λ c. search needs)
     cast-n
     add-n
-    loop-less
+    (λ c. search needs)
     loop-again
     returns)

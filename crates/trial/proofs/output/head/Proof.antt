@@ -7,22 +7,10 @@ use borrow.Author.Needs.{needs}
 use Rattle.trial.proofs.output.head.Statement.{statement}
 use Rattle.trial.proofs.output.head.Tie as tie
 
-sub-put : tie.Need-sub-put
-sub-put c = search needs
-
-part-bytes-start : tie.Need-part-bytes-start
-part-bytes-start c = search needs
-
-part-bytes-end : tie.Need-part-bytes-end
-part-bytes-end c = search needs
-
-put-requires : tie.Need-put-requires
-put-requires c κs = search needs
-
 returns : tie.Need-returns
 returns c =
     let put = c .before .put in
     ap (λ (l : List ℕ). c .before .before .before .args .number ∷ l) (append-nil (put .last .1 .0) ∙ put .ensures)
 
 pub head-spec : {M : Type 1} → statement M
-head-spec = tie.close (tie.spec sub-put part-bytes-start part-bytes-end put-requires returns)
+head-spec = tie.close (tie.spec (λ c. search needs) (λ c. search needs) (λ c. search needs) (λ c κs. search needs) returns)

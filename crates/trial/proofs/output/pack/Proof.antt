@@ -13,16 +13,16 @@ use lib.Seq.{take-suc, take-all}
 use mir.Syntax.{w16}
 use mir.Val.{ofZ}
 use mir.ValLaws.{toZ-ofZ}
-use Rattle.payload.proofs.Copies.{part-long, part-written}
-use Rattle.trial.specs.Format.{littleEndian, packed}
+use Rattle.bits.proofs.Copies.{part-long, part-written}
+use Rattle.trial.specs.Format.{littleEndian, levelBytes}
 use Rattle.trial.proofs.Packing.{length-littleEndian, packed-snoc}
 use Rattle.trial.proofs.output.pack.Statement.{statement}
 use Rattle.trial.proofs.output.pack.Tie as tie
 
 -- a turn: the part of two places from i * 2 on holds the bytes of the level at i
 turn : (levels : List ℤ) (bytes w : List ℕ) (i k n : ℕ) → i < length levels → length bytes ≡ length levels * 2 → k ≡ 2
-    → n ≡ ofZ w16 (getD levels i (pos 0)) → w ≡ littleEndian (length (take k (drop (i * 2) bytes))) n → take (i * 2) bytes ≡ packed (take i levels)
-    → take ((i + 1) * 2) (putMid (i * 2) k bytes w) ≡ packed (take (i + 1) levels)
+    → n ≡ ofZ w16 (getD levels i (pos 0)) → w ≡ littleEndian (length (take k (drop (i * 2) bytes))) n → take (i * 2) bytes ≡ levelBytes (take i levels)
+    → take ((i + 1) * 2) (putMid (i * 2) k bytes w) ≡ levelBytes (take (i + 1) levels)
 turn levels bytes w i k n h long two en ew e =
     let room : i * 2 + 2 ≤ length bytes = omega arith in
     let end : (i + 1) * 2 ≡ i * 2 + 2 = omega arith in
@@ -32,52 +32,19 @@ turn levels bytes w i k n h long two en ew e =
     ∙ rw (e, en, add-one, take-suc levels i (pos 0) h, packed-snoc (take i levels) (getD levels i (pos 0))))
 
 done : (levels : List ℤ) (bytes : List ℕ) (i : ℕ) → length levels ≤ i → length bytes ≤ i * 2
-    → take (i * 2) bytes ≡ packed (take i levels) → bytes ≡ packed levels
-done levels bytes i h l e = sym (take-all (i * 2) bytes l) ∙ e ∙ ap packed (take-all i levels h)
+    → take (i * 2) bytes ≡ levelBytes (take i levels) → bytes ≡ levelBytes levels
+done levels bytes i h l e = sym (take-all (i * 2) bytes l) ∙ e ∙ ap levelBytes (take-all i levels h)
 
 abbrev Inv-loop : tie.InvT-loop
 Inv-loop levels bytes₀ i₀ bytes i =
-    (i ≤ length levels) × (length bytes ≡ length bytes₀) × (take (i * 2) bytes ≡ packed (take i levels))
+    (i ≤ length levels) × (length bytes ≡ length bytes₀) × (take (i * 2) bytes ≡ levelBytes (take i levels))
 
 abbrev μ-loop : tie.MeasureT-loop
 μ-loop levels bytes₀ i₀ bytes i = length levels - i
 
 loop-holds : tie.Need-loop-holds Inv-loop μ-loop
-unfolding packed
+unfolding levelBytes
 loop-holds c = (omega arith, refl, refl)
-
-mul-at : tie.Need-mul-at Inv-loop μ-loop
-mul-at c = search needs
-
-mul-complement : tie.Need-mul-complement Inv-loop μ-loop
-mul-complement c = search needs
-
-shared-slice-copy-out-complement : tie.Need-shared-slice-copy-out-complement Inv-loop μ-loop
-shared-slice-copy-out-complement c = search needs
-
-complement-requires : tie.Need-complement-requires Inv-loop μ-loop
-complement-requires c κs = search needs
-
-add-put : tie.Need-add-put Inv-loop μ-loop
-add-put c = search needs
-
-sub-put : tie.Need-sub-put Inv-loop μ-loop
-sub-put c = search needs
-
-part-put-start : tie.Need-part-put-start Inv-loop μ-loop
-part-put-start c = search needs
-
-part-put-end : tie.Need-part-put-end Inv-loop μ-loop
-part-put-end c = search needs
-
-put-requires : tie.Need-put-requires Inv-loop μ-loop
-put-requires c κs = search needs
-
-add-i : tie.Need-add-i Inv-loop μ-loop
-add-i c = search needs
-
-loop-less : tie.Need-loop-less Inv-loop μ-loop
-loop-less c = search needs
 
 loop-again : tie.Need-loop-again Inv-loop μ-loop
 loop-again c =
@@ -88,9 +55,6 @@ loop-again c =
     let k = l .i * 2 + 2 - l .i * 2 in
     let t = turn levels (l .bytes) _ (l .i) k _ (omega arith) (omega arith) (omega arith) n (c .before .before .put .ensures) (l .inv .2) in
     (omega arith, c .before .bytes .given .1 ∙ l .inv .1, t)
-
-same-length : tie.Need-same-length Inv-loop μ-loop
-same-length c = search needs
 
 returns : tie.Need-returns Inv-loop μ-loop
 returns c =
@@ -104,17 +68,17 @@ pack-spec =
     Inv-loop
     μ-loop
     loop-holds
-    mul-at
-    mul-complement
-    shared-slice-copy-out-complement
-    complement-requires
-    add-put
-    sub-put
-    part-put-start
-    part-put-end
-    put-requires
-    add-i
-    loop-less
+    (λ c. search needs)
+    (λ c. search needs)
+    (λ c. search needs)
+    (λ c κs. search needs)
+    (λ c. search needs)
+    (λ c. search needs)
+    (λ c. search needs)
+    (λ c. search needs)
+    (λ c κs. search needs)
+    (λ c. search needs)
+    (λ c. search needs)
     loop-again
-    same-length
+    (λ c. search needs)
     returns)

@@ -39,26 +39,11 @@ loop-holds c =
     let s = c .args in
     (omega arith, refl, ap (λ (k : ℕ). littleEndian k (s .n)) (sub-zero (length (s .out .now))))
 
-cast-out : tie.Need-cast-out Inv-loop μ-loop
-cast-out c = search needs
-
-slice-write-out : tie.Need-slice-write-out Inv-loop μ-loop
-slice-write-out c = search needs
-
-add-i : tie.Need-add-i Inv-loop μ-loop
-add-i c = search needs
-
-loop-less : tie.Need-loop-less Inv-loop μ-loop
-loop-less c = search needs
-
 loop-again : tie.Need-loop-again Inv-loop μ-loop
 loop-again c =
     let l = c .before .loop in
     let n = length (c .before .before .args .out .now) in
     (omega arith, simp length-set (l .inv .1), turn (l .out) n (l .i) (l .rest) (omega arith) (omega arith) ∙ l .inv .2)
-
-same-length : tie.Need-same-length Inv-loop μ-loop
-same-length c = search needs
 
 returns : tie.Need-returns Inv-loop μ-loop
 returns c =
@@ -72,10 +57,10 @@ put-spec =
     Inv-loop
     μ-loop
     loop-holds
-    cast-out
-    slice-write-out
-    add-i
-    loop-less
+    (λ c. search needs)
+    (λ c. search needs)
+    (λ c. search needs)
+    (λ c. search needs)
     loop-again
-    same-length
+    (λ c. search needs)
     returns)

@@ -1,0 +1,129 @@
+-- What an answer tells says which answer it is; and what holds of what checks find, test by test.
+-- Assumes nothing.
+use mathlib.Core.Path.{_≡_, refl, sym, ap, _∙_}
+use mathlib.Core.Bool.{Bool, true, false, cond}
+use Prim.Native.Nat.{ℕ, _<_}
+use native.Mathlib.Omega.{arith}
+use lib.Dec.{eqb}
+use Rattle.answers.specs.Answers.{accepted, refused, because, ofWritten, ofDecoded, ofReceivedA, ofReceivedB}
+use Rattle.answers.specs.Checks.{Checked}
+use Rattle.answers.specs.declared.Refusal.{Refusal}
+use Rattle.answers.specs.declared.Refusal.the-variants.{Unknown, WrongLength, NoRoom, NotABit, BadScheme, TooManySymbols, Occupied, StrayPoint, Uncorrectable, WrongCheck}
+use Rattle.answers.specs.declared.Told.{Told}
+use Rattle.answers.specs.declared.Written.{Written}
+use Rattle.answers.specs.declared.Written.the-variants as written
+use Rattle.answers.specs.declared.Decoded.{Decoded}
+use Rattle.answers.specs.declared.Decoded.the-variants as decoded
+use Rattle.answers.specs.declared.ReceivedA.{ReceivedA}
+use Rattle.answers.specs.declared.ReceivedA.the-variants as receivedA
+use Rattle.answers.specs.declared.ReceivedB.{ReceivedB}
+use Rattle.answers.specs.declared.ReceivedB.the-variants as receivedB
+
+-- the refusal that tells this
+pub refusalOf : Told → Refusal
+refusalOf t =
+    cond (eqb (t .number) 1) Unknown (cond (eqb (t .number) 2) WrongLength (cond (eqb (t .number) 3) NoRoom (cond (eqb (t .number) 4) (NotABit (t .place))
+    (cond (eqb (t .number) 5) (BadScheme (t .place)) (cond (eqb (t .number) 6) TooManySymbols (cond (eqb (t .number) 7) (Occupied (t .place))
+    (cond (eqb (t .number) 8) (StrayPoint (t .place)) (cond (eqb (t .number) 9) (Uncorrectable (t .place)) WrongCheck))))))))
+
+pub refusal-of : (r : Refusal) → refusalOf (because r) ≡ r
+unfolding refusalOf
+refusal-of Unknown = refl
+refusal-of WrongLength = refl
+refusal-of NoRoom = refl
+refusal-of (NotABit i) = refl
+refusal-of (BadScheme i) = refl
+refusal-of TooManySymbols = refl
+refusal-of (Occupied i) = refl
+refusal-of (StrayPoint i) = refl
+refusal-of (Uncorrectable i) = refl
+refusal-of WrongCheck = refl
+
+-- only what is accepted has number 0
+pub numbered : (r : Refusal) → eqb (because r .number) 0 ≡ false
+numbered Unknown = refl
+numbered WrongLength = refl
+numbered NoRoom = refl
+numbered (NotABit i) = refl
+numbered (BadScheme i) = refl
+numbered TooManySymbols = refl
+numbered (Occupied i) = refl
+numbered (StrayPoint i) = refl
+numbered (Uncorrectable i) = refl
+numbered WrongCheck = refl
+
+pub never-accepted : (r : Refusal) (mended protected : ℕ) → because r ≡ accepted mended protected → ⊥
+never-accepted r m p e =
+    let z : false ≡ true = sym (numbered r) ∙ ap (λ (t : Told). eqb (t .number) 0) e in
+    let w : _≡_ {A = ℕ} 1 0 = ap (λ (b : Bool). cond b 0 1) z in
+    omega arith
+
+-- a refusal tells its number and place, and no counts
+pub because-is : (r : Refusal) → because r ≡ refused (because r .number) (because r .place)
+because-is Unknown = refl
+because-is WrongLength = refl
+because-is NoRoom = refl
+because-is (NotABit i) = refl
+because-is (BadScheme i) = refl
+because-is TooManySymbols = refl
+because-is (Occupied i) = refl
+because-is (StrayPoint i) = refl
+because-is (Uncorrectable i) = refl
+because-is WrongCheck = refl
+
+-- ---- each kind of answer, out of what it tells
+
+writtenOf : Told → Written
+writtenOf t = cond (eqb (t .number) 0) written.Accepted (written.Refused (refusalOf t))
+
+written-of : (a : Written) → writtenOf (ofWritten a) ≡ a
+unfolding writtenOf
+written-of written.Accepted = refl
+written-of (written.Refused r) = rw (numbered r, refusal-of r)
+
+pub written-same : (a b : Written) → ofWritten a ≡ ofWritten b → a ≡ b
+written-same a b e = sym (written-of a) ∙ ap writtenOf e ∙ written-of b
+
+decodedOf : Told → Decoded
+decodedOf t = cond (eqb (t .number) 0) (decoded.Accepted (t .mended)) (decoded.Refused (refusalOf t))
+
+decoded-of : (a : Decoded) → decodedOf (ofDecoded a) ≡ a
+unfolding decodedOf
+decoded-of (decoded.Accepted m) = refl
+decoded-of (decoded.Refused r) = rw (numbered r, refusal-of r)
+
+pub decoded-same : (a b : Decoded) → ofDecoded a ≡ ofDecoded b → a ≡ b
+decoded-same a b e = sym (decoded-of a) ∙ ap decodedOf e ∙ decoded-of b
+
+receivedAOf : Told → ReceivedA
+receivedAOf t = cond (eqb (t .number) 0) (receivedA.Accepted (t .mended) (t .protected)) (receivedA.Refused (refusalOf t))
+
+received-a-of : (a : ReceivedA) → receivedAOf (ofReceivedA a) ≡ a
+unfolding receivedAOf
+received-a-of (receivedA.Accepted m p) = refl
+received-a-of (receivedA.Refused r) = rw (numbered r, refusal-of r)
+
+pub received-a-same : (a b : ReceivedA) → ofReceivedA a ≡ ofReceivedA b → a ≡ b
+received-a-same a b e = sym (received-a-of a) ∙ ap receivedAOf e ∙ received-a-of b
+
+receivedBOf : Told → ReceivedB
+receivedBOf t = cond (eqb (t .number) 0) (receivedB.Accepted (t .mended)) (receivedB.Refused (refusalOf t))
+
+received-b-of : (a : ReceivedB) → receivedBOf (ofReceivedB a) ≡ a
+unfolding receivedBOf
+received-b-of (receivedB.Accepted m) = refl
+received-b-of (receivedB.Refused r) = rw (numbered r, refusal-of r)
+
+pub received-b-same : (a b : ReceivedB) → ofReceivedB a ≡ ofReceivedB b → a ≡ b
+received-b-same a b e = sym (received-b-of a) ∙ ap receivedBOf e ∙ received-b-of b
+
+-- ---- checks
+
+-- what holds of each way of a test, by what the test says there
+pub by-test : {A : Type 0} (P : Checked A → Type 0) (b : Bool) {x y : Checked A} → (b ≡ true → P x) → (b ≡ false → P y) → P (cond b x y)
+by-test P true p q = p refl
+by-test P false p q = q refl
+
+-- what is accepted is not refused
+pub not-refused : {t : Told} {mended differing number place : ℕ} → t ≡ accepted mended differing → t ≡ refused number place → 0 < number → ⊥
+not-refused a r l = let z = ap (λ (t : Told). t .number) (sym a ∙ r) in omega arith

@@ -1,0 +1,130 @@
+// What the jobs answer (document 01, "Refusal numbers"): accepted, with the counts that the job has, or refused, for a reason at a place.
+// Document 01's number, place and counts of each answer come from here, for C, the trial program and the report alike.
+ghost use mathlib.Core.Path.{_≡_};
+ghost use Rattle.answers.specs.Answers.{accepted, refused, because, ofWritten, ofDecoded, ofReceivedA, ofReceivedB};
+
+// Why a word, a frame or a grid is refused, in the order of document 01's numbers.
+pub enum Refusal {
+    Unknown,
+    WrongLength,
+    NoRoom,
+    NotABit(usize),
+    BadScheme(usize),
+    TooManySymbols,
+    Occupied(usize),
+    StrayPoint(usize),
+    Uncorrectable(usize),
+    WrongCheck,
+}
+
+// What encode, send A and send B answer.
+pub enum Written {
+    Accepted,
+    Refused(Refusal),
+}
+
+// What decode answers: the bits mended, or a refusal.
+pub enum Decoded {
+    Accepted(usize),
+    Refused(Refusal),
+}
+
+// What receive A answers: the bits mended and the protected bits that differ, or a refusal.
+pub enum ReceivedA {
+    Accepted { mended: usize, protected: usize },
+    Refused(Refusal),
+}
+
+// What receive B answers: the bits mended, or a refusal.
+pub enum ReceivedB {
+    Accepted(usize),
+    Refused(Refusal),
+}
+
+// What an answer tells. A count that the job does not have is 0.
+pub struct Told {
+    pub number: u8,
+    pub place: usize,
+    pub mended: usize,
+    pub protected: usize,
+}
+
+// What encode, send A or send B tells.
+pub fn of_written(answer: Written) -> Told
+    ensures { λ r. ⌜ r ≡ ofWritten answer ⌝ }
+{
+    match answer {
+        Written::Accepted => accepted(0, 0),
+        Written::Refused(why) => of_refusal(why),
+    }
+}
+
+// What decode tells.
+pub fn of_decoded(answer: Decoded) -> Told
+    ensures { λ r. ⌜ r ≡ ofDecoded answer ⌝ }
+{
+    match answer {
+        Decoded::Accepted(mended) => accepted(mended, 0),
+        Decoded::Refused(why) => of_refusal(why),
+    }
+}
+
+// What receive A tells.
+pub fn of_received_a(answer: ReceivedA) -> Told
+    ensures { λ r. ⌜ r ≡ ofReceivedA answer ⌝ }
+{
+    match answer {
+        ReceivedA::Accepted { mended, protected } => accepted(mended, protected),
+        ReceivedA::Refused(why) => of_refusal(why),
+    }
+}
+
+// What receive B tells.
+pub fn of_received_b(answer: ReceivedB) -> Told
+    ensures { λ r. ⌜ r ≡ ofReceivedB answer ⌝ }
+{
+    match answer {
+        ReceivedB::Accepted(mended) => accepted(mended, 0),
+        ReceivedB::Refused(why) => of_refusal(why),
+    }
+}
+
+// What a refusal tells.
+pub fn of_refusal(why: Refusal) -> Told
+    ensures { λ r. ⌜ r ≡ because why ⌝ }
+{
+    match why {
+        Refusal::Unknown => refused(1, 0),
+        Refusal::WrongLength => refused(2, 0),
+        Refusal::NoRoom => refused(3, 0),
+        Refusal::NotABit(index) => refused(4, index),
+        Refusal::BadScheme(entry) => refused(5, entry),
+        Refusal::TooManySymbols => refused(6, 0),
+        Refusal::Occupied(index) => refused(7, index),
+        Refusal::StrayPoint(index) => refused(8, index),
+        Refusal::Uncorrectable(block) => refused(9, block),
+        Refusal::WrongCheck => refused(10, 0),
+    }
+}
+
+fn accepted(mended: usize, protected: usize) -> Told
+    ensures { λ r. ⌜ r ≡ accepted mended protected ⌝ }
+{
+    Told {
+        number: 0,
+        place: 0,
+        mended,
+        protected,
+    }
+}
+
+fn refused(number: u8, place: usize) -> Told
+    ensures { λ r. ⌜ r ≡ refused number place ⌝ }
+{
+    Told {
+        number,
+        place,
+        mended: 0,
+        protected: 0,
+    }
+}

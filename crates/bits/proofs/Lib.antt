@@ -1,0 +1,9 @@
+-- The laws of the crate, in the order in which they rest on each other.
+pub mod Digits
+pub mod Distances
+pub mod Remainders
+pub mod Numbers
+pub mod Octets
+pub mod Parts
+pub mod Copies
+pub mod Informing

@@ -1,0 +1,3 @@
+pub mod Words
+pub mod Remainders
+pub mod Bytes

@@ -1,0 +1,161 @@
+-- How the receiver of Payload B holds what is on its way, and what its private functions promise one another.
+-- The promise of receive B rests on nothing here.
+-- Assumes nothing.
+use mathlib.Core.Path.{_≡_}
+use mathlib.Core.Logic.{_≢_}
+use mathlib.Core.Bool.{Bool, true, false, cond}
+use mathlib.Core.List.{List, [], _++_}
+use Prim.Native.Nat.{ℕ, _+_, _*_, _≤_, _<_}
+use lib.IntN.{ℤ}
+use lib.ListN.{length, take, drop, replicate}
+use Rattle.answers.specs.declared.Refusal.the-variants.{Uncorrectable}
+use Rattle.answers.specs.declared.Decoded.{Decoded}
+use Rattle.answers.specs.declared.Decoded.the-variants.{Accepted as Accepts, Refused as RefusesIt}
+use Rattle.answers.specs.declared.ReceivedB.{ReceivedB}
+use Rattle.answers.specs.declared.ReceivedB.the-variants.{Accepted, Refused}
+use Rattle.bits.specs.Words.{Bits, differ}
+use Rattle.bits.specs.Bytes.{Bytes, bitsOf}
+use Rattle.bch.specs.Codes.{Within}
+use Rattle.points.specs.Lent.{ourCells, ourQuadrants}
+use Rattle.symbols.specs.Grid.{subCarriers}
+use Rattle.payload.specs.Scrambler.{start, scrambledFrom, registerAfter}
+use Rattle.payload.specs.Wire.{Fits, FirstHopeless}
+use Rattle.payload_b.specs.CodedB.{blockBytes, blockBits, codeB, blockOf, codedB, sumOf}
+use Rattle.payload_b.specs.PromiseB.{mendsB, wireB}
+use Rattle.payload_b.specs.PlanB.{Scheme, Sendable, planOf}
+use Rattle.payload_b.specs.declared.plan.Plan.{Plan}
+use Rattle.receiver_b.specs.declared.stream.Stream.{Stream}
+use Rattle.receiver_b.specs.declared.stream.Tally.{Tally}
+use Rattle.receiver_b.specs.declared.block.Finished.{Finished}
+use Rattle.receiver_b.specs.declared.block.Finished.the-variants.{Mended, Hopeless}
+
+-- ---- what is lent, and what is planned
+
+-- our tables, and a scheme
+pub record Lent (cells quadrants scheme : List ℕ) : Type 0 where
+  pub cells-are : cells ≡ ourCells
+  pub quadrants-are : quadrants ≡ ourQuadrants
+  pub entries : Scheme scheme
+
+-- a frame whose checks 1, 2, 5, 6 and 3 pass
+pub record Receivable (mode size : ℕ) (scheme : List ℕ) (plan : Plan) (is qs : List ℤ) (area : List ℕ) : Type 0 where
+  pub sendable : Sendable mode size scheme
+  pub planned : plan ≡ planOf mode size scheme
+  pub long-i : subCarriers * plan .symbols ≤ length is
+  pub long-q : subCarriers * plan .symbols ≤ length qs
+  pub room : size ≤ length area
+
+-- ---- one block
+
+-- no codeword is within t of the block
+pub record NoneNear (mode : ℕ) (block : List ℕ) : Type 0 where
+  pub coded : mode ≢ 0
+  pub none : (v : List ℕ) → Within (codeB mode) block v → ⊥
+
+-- the information of the block sent stands at the front, and so many places of the block differ
+pub record Informs (mode : ℕ) (block out : List ℕ) (count : ℕ) : Type 0 where
+  pub long : length out ≡ 508
+  pub bits : Bits (take (8 * blockBytes mode) out)
+  pub near : count ≤ mendsB mode
+  pub counted : count ≡ differ (blockOf mode (take (8 * blockBytes mode) out)) block
+
+-- what `mend` promises
+abbrev pub Mends : ℕ → List ℕ → List ℕ → Decoded → Type 0
+Mends mode block out (Accepts count) = Informs mode block out count
+Mends mode block out (RefusesIt why) = NoneNear mode block
+
+-- the bytes of the block sent are written, so many places of the block differ, and the register is carried on
+pub record Writes (mode register : ℕ) (block : List ℕ) (count after : ℕ) (out : List ℕ) : Type 0 where
+  pub long : length out ≡ blockBytes mode
+  pub bytes : Bytes out
+  pub near : count ≤ mendsB mode
+  pub counted : count ≡ differ (blockOf mode (scrambledFrom register (bitsOf out))) block
+  pub carried : after ≡ registerAfter (8 * blockBytes mode) register
+
+-- what `finish` promises
+abbrev pub Finishes : ℕ → ℕ → List ℕ → List ℕ → Finished → List ℕ → Type 0
+Finishes mode register block out (Mended count after) out' = Writes mode register block count after out'
+Finishes mode register block out Hopeless out' = NoneNear mode block × (out' ≡ out)
+
+-- ---- bits on their way to the next block
+
+-- room for a block, with bits
+abbrev pub Holding : List ℕ → Type 0
+Holding held = (length held ≡ 508) × Bits held
+
+-- a state that the code may go on from: the block held, and the tally
+pub record Sane (mode blocks : ℕ) (held : List ℕ) (s : Tally) : Type 0 where
+  pub block : Holding held
+  pub partial : s .count < blockBits mode
+  pub few : s .done ≤ blocks
+  pub mended : s .mended ≤ blockBytes mode * s .done
+
+-- nothing taken in yet
+abbrev pub began : Stream
+began = record { block = replicate 508 0; tally = record { count = 0; done = 0; register = start; mended = 0; good = true } }
+
+-- m blocks are mended: their bits, the frame that they are sent for, the register after it, and how many bits were mended
+pub record Done (mode m : ℕ) (bits frame : List ℕ) (register count : ℕ) : Type 0 where
+  pub long : length bits ≡ blockBits mode * m
+  pub fits : Fits (wireB mode (blockBytes mode * m)) bits frame
+  pub carried : register ≡ registerAfter (8 * length frame) start
+  pub counted : count ≡ differ (codedB mode frame) bits
+
+-- of the bits `fed`, each whole block is mended and the rest waits; the frame so far stands at the front of the area. Behind all blocks comes the fill
+pub record Going (mode blocks : ℕ) (fed area held : List ℕ) (s : Tally) : Type 0 where
+  pub bits : List ℕ
+  pub fill : List ℕ
+  pub parts : fed ≡ bits ++ (take (s .count) held ++ fill)
+  pub done : Done mode (s .done) bits (take (blockBytes mode * s .done) area) (s .register) (s .mended)
+  pub unfilled : s .done < blocks → fill ≡ []
+
+-- whatever comes: of the frame's blocks the next has no codeword within t, and every block before it has one
+pub record Stuck (mode blocks : ℕ) (fed : List ℕ) (s : Tally) : Type 0 where
+  pub coded : mode ≢ 0
+  pub hopeless : (more : List ℕ) → FirstHopeless (codeB mode) blocks (take (blockBits mode * blocks) (fed ++ more)) (s .done)
+
+-- `fed` was taken in, by whether the state is good yet
+abbrev pub Standing : Bool → ℕ → ℕ → List ℕ → List ℕ → List ℕ → Tally → Type 0
+Standing true mode blocks fed area held s = Going mode blocks fed area held s
+Standing false mode blocks fed area held s = Stuck mode blocks fed s
+
+-- by that of its tally
+abbrev pub Taken : ℕ → ℕ → List ℕ → List ℕ → List ℕ → Tally → Type 0
+Taken mode blocks fed area held s = Standing (s .good) mode blocks fed area held s
+
+-- more bits are taken in: nothing beyond the frame is touched
+pub record Moves (mode blocks : ℕ) (bits area held : List ℕ) (s : Tally) (area' held' : List ℕ) (s' : Tally) : Type 0 where
+  pub long : length area' ≡ length area
+  pub beyond : drop (blockBytes mode * blocks) area' ≡ drop (blockBytes mode * blocks) area
+  pub taken : (fed : List ℕ) → Taken mode blocks fed area held s → Taken mode blocks (fed ++ bits) area' held' s'
+
+-- and the state after is one to go on from
+abbrev pub TakesIn : ℕ → ℕ → List ℕ → List ℕ → List ℕ → Tally → List ℕ → List ℕ → Tally → Type 0
+TakesIn mode blocks bits area held s area' held' s' = Sane mode blocks held' s' × Moves mode blocks bits area held s area' held' s'
+
+-- a state whose block is full
+pub record Full (mode : ℕ) (area held : List ℕ) (s : Tally) : Type 0 where
+  pub known : mode ≤ 2
+  pub block : Holding held
+  pub full : s .count ≡ blockBits mode
+  pub fits : blockBytes mode * s .done + blockBytes mode ≤ length area
+  pub mended : s .mended ≤ blockBytes mode * s .done
+  pub good : s .good ≡ true
+
+-- the full block is mended, or the state is stuck at it
+abbrev pub Closes : ℕ → List ℕ → List ℕ → Tally → List ℕ → Tally → Type 0
+Closes mode area held s area' s' = (blocks : ℕ) → s .done < blocks → TakesIn mode blocks [] area held s area' held s'
+
+-- what OFDM symbols need that are taken in, m of them
+pub record Ready (cells quadrants scheme : List ℕ) (mode : ℕ) (plan : Plan) (from : Stream) (m : ℕ) (is qs : List ℤ) (area : List ℕ) : Type 0 where
+  pub lent : Lent cells quadrants scheme
+  pub total : plan .sum ≡ sumOf scheme
+  pub known : mode ≤ 2
+  pub sane : Sane mode (plan .blocks) (from .block) (from .tally)
+  pub long-i : subCarriers * m ≤ length is
+  pub long-q : subCarriers * m ≤ length qs
+  pub room : blockBytes mode * plan .blocks ≤ length area
+
+-- the answer at the end
+abbrev pub settledB : Tally → ReceivedB
+settledB s = cond (s .good) (Accepted (s .mended)) (Refused (Uncorrectable (s .done)))

@@ -1,0 +1,12 @@
+// OFDM symbols of HiNoC (ITU-T J.195.2, equation 4, as document 01 reads it): two lists of levels, I and Q, 256 of each to an OFDM symbol.
+// It knows points, and no code, no frame and no mode. Every public function answers whatever comes in.
+//
+//   grid   which sub-carrier holds which of the 210 points, levels put there, and sub-carriers that must be empty
+
+pub mod grid;
+
+// What a sub-carrier holds: the constellation symbol s, numbered from 1, or nothing.
+pub enum Carrier {
+    Holds(usize),
+    Empty,
+}
