@@ -52,11 +52,14 @@ numbered (StrayPoint i) = refl
 numbered (Uncorrectable i) = refl
 numbered WrongCheck = refl
 
-pub never-accepted : (r : Refusal) (mended protected : ℕ) → because r ≡ accepted mended protected → ⊥
-never-accepted r m p e =
-    let z : false ≡ true = sym (numbered r) ∙ ap (λ (t : Told). eqb (t .number) 0) e in
+numbered-not : (r : Refusal) → because r .number ≡ 0 → ⊥
+numbered-not r e =
+    let z : false ≡ true = sym (numbered r) ∙ ap (λ (n : ℕ). eqb n 0) e in
     let w : _≡_ {A = ℕ} 1 0 = ap (λ (b : Bool). cond b 0 1) z in
     omega arith
+
+pub never-accepted : (r : Refusal) (mended protected : ℕ) → because r ≡ accepted mended protected → ⊥
+never-accepted r m p e = numbered-not r (ap (λ (t : Told). t .number) e)
 
 -- a refusal tells its number and place, and no counts
 pub because-is : (r : Refusal) → because r ≡ refused (because r .number) (because r .place)
@@ -116,6 +119,20 @@ received-b-of (receivedB.Refused r) = rw (numbered r, refusal-of r)
 
 pub received-b-same : (a b : ReceivedB) → ofReceivedB a ≡ ofReceivedB b → a ≡ b
 received-b-same a b e = sym (received-b-of a) ∙ ap receivedBOf e ∙ received-b-of b
+
+-- ---- number 0 says that it is accepted, with its own counts
+
+pub accepted-written : (a : Written) → ofWritten a .number ≡ 0 → ofWritten a ≡ accepted 0 0
+accepted-written written.Accepted e = refl
+accepted-written (written.Refused r) e = absurd (numbered-not r e)
+
+pub accepted-a : (a : ReceivedA) → ofReceivedA a .number ≡ 0 → ofReceivedA a ≡ accepted (ofReceivedA a .mended) (ofReceivedA a .protected)
+accepted-a (receivedA.Accepted m p) e = refl
+accepted-a (receivedA.Refused r) e = absurd (numbered-not r e)
+
+pub accepted-b : (a : ReceivedB) → ofReceivedB a .number ≡ 0 → ofReceivedB a ≡ accepted (ofReceivedB a .mended) 0
+accepted-b (receivedB.Accepted m) e = refl
+accepted-b (receivedB.Refused r) e = absurd (numbered-not r e)
 
 -- ---- checks
 

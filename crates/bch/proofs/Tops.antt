@@ -63,10 +63,10 @@ tops-xor (suc m) x y =
 
 -- ---- bits at the top of a register
 
-packed-lt : (bs : List ℕ) → Bits bs → atTop bs < 2 ^ 192
+at-top-lt : (bs : List ℕ) → Bits bs → atTop bs < 2 ^ 192
 unfolding atTop
-packed-lt [] bits = pow-pos 192
-packed-lt (b ∷ bs) bits = digits-lt (bits .0) (shr-lt 191 1 (packed-lt bs (bits .1)))
+at-top-lt [] bits = pow-pos 192
+at-top-lt (b ∷ bs) bits = digits-lt (bits .0) (shr-lt 191 1 (at-top-lt bs (bits .1)))
 
 shifted-digits : (r k x : ℕ) (bs : List ℕ) → r + k ≡ 192 → atTop (digits r x ++ bs) ≡ x % 2 ^ r * 2 ^ k + atTop bs / 2 ^ r
 unfolding atTop digits
@@ -79,31 +79,31 @@ shifted-digits (suc r) k x bs h =
     ∙ omega (arith, ap (λ (n : ℕ). n * 2 ^ k) (rw one-add at (mod-pow-add x 1 r)), rw add-one at (shr-shr (atTop bs) r 1))
 
 -- digits before bits
-pub packed-before : (r x : ℕ) (bs : List ℕ) → r ≤ 192 → x < 2 ^ r → atTop (digits r x ++ bs) ≡ x * 2 ^ (192 - r) + atTop bs / 2 ^ r
-packed-before r x bs h l = shifted-digits r (192 - r) x bs (omega arith) ∙ ap (λ (n : ℕ). n * 2 ^ (192 - r) + atTop bs / 2 ^ r) (mod-eq-of-lt l)
+pub at-top-before : (r x : ℕ) (bs : List ℕ) → r ≤ 192 → x < 2 ^ r → atTop (digits r x ++ bs) ≡ x * 2 ^ (192 - r) + atTop bs / 2 ^ r
+at-top-before r x bs h l = shifted-digits r (192 - r) x bs (omega arith) ∙ ap (λ (n : ℕ). n * 2 ^ (192 - r) + atTop bs / 2 ^ r) (mod-eq-of-lt l)
 
-pub packed-digits : (r x : ℕ) → r ≤ 192 → x < 2 ^ r → atTop (digits r x) ≡ x * 2 ^ (192 - r)
+pub at-top-digits : (r x : ℕ) → r ≤ 192 → x < 2 ^ r → atTop (digits r x) ≡ x * 2 ^ (192 - r)
 unfolding atTop
-packed-digits r x h l =
-    ap atTop (sym (append-nil (digits r x))) ∙ packed-before r x [] h l ∙ ap (λ (n : ℕ). x * 2 ^ (192 - r) + n) (zero-div (2 ^ r)) ∙ add-zero _
+at-top-digits r x h l =
+    ap atTop (sym (append-nil (digits r x))) ∙ at-top-before r x [] h l ∙ ap (λ (n : ℕ). x * 2 ^ (192 - r) + n) (zero-div (2 ^ r)) ∙ add-zero _
 
 -- what stands at the top has zeros below
-packed-below : (bs : List ℕ) (k : ℕ) → length bs + k ≤ 192 → atTop bs % 2 ^ k ≡ 0
+at-top-below : (bs : List ℕ) (k : ℕ) → length bs + k ≤ 192 → atTop bs % 2 ^ k ≡ 0
 unfolding atTop
-packed-below [] k h = zero-mod (2 ^ k)
-packed-below (b ∷ bs) k h =
+at-top-below [] k h = zero-mod (2 ^ k)
+at-top-below (b ∷ bs) k h =
     let s : 191 ≡ 191 - k + k = omega arith in
     let p : b * 2 ^ 191 ≡ b * 2 ^ (191 - k) * 2 ^ k
     = ap (λ (n : ℕ). b * 2 ^ n) s ∙ ap (λ (n : ℕ). b * n) (pow-add 2 (191 - k) k) ∙ sym (mul-assoc b (2 ^ (191 - k)) (2 ^ k)) in
-    rw (p, mul-add-mod-self-right (b * 2 ^ (191 - k)) (2 ^ k) (atTop bs / 2), ← (field (atTop bs) k 1), packed-below bs (k + 1) (omega arith))
+    rw (p, mul-add-mod-self-right (b * 2 ^ (191 - k)) (2 ^ k) (atTop bs / 2), ← (field (atTop bs) k 1), at-top-below bs (k + 1) (omega arith))
 
 unpacked : (K b p : ℕ) → p < K * 2 → p % 2 ≡ 0 → (b * K + p / 2) * 2 % (K * 2) ≡ p
 unpacked K b p l e = let s : (b * K + p / 2) * 2 ≡ b * (K * 2) + p = omega arith in rw s (digits-mod b l)
 
-pub tops-packed : (bs : List ℕ) → Bits bs → length bs ≤ 192 → tops (length bs) (atTop bs) ≡ bs
+pub tops-at-top : (bs : List ℕ) → Bits bs → length bs ≤ 192 → tops (length bs) (atTop bs) ≡ bs
 unfolding tops atTop
-tops-packed [] bits h = refl
-tops-packed (b ∷ bs) bits h =
-    ap₂ _∷_ (ap (λ (n : ℕ). n % 2) (high b 191 (shr-lt 191 1 (packed-lt bs (bits .1)))) ∙ mod-eq-of-lt (bits .0))
-    (ap (tops (length bs)) (unpacked (2 ^ 191) b (atTop bs) (packed-lt bs (bits .1)) (packed-below bs 1 (omega arith)))
-    ∙ tops-packed bs (bits .1) (omega arith))
+tops-at-top [] bits h = refl
+tops-at-top (b ∷ bs) bits h =
+    ap₂ _∷_ (ap (λ (n : ℕ). n % 2) (high b 191 (shr-lt 191 1 (at-top-lt bs (bits .1)))) ∙ mod-eq-of-lt (bits .0))
+    (ap (tops (length bs)) (unpacked (2 ^ 191) b (atTop bs) (at-top-lt bs (bits .1)) (at-top-below bs 1 (omega arith)))
+    ∙ tops-at-top bs (bits .1) (omega arith))

@@ -131,7 +131,7 @@ fn wide(b: u8) -> u64
     (b % 2) as u64
 }
 
-// The contents of the four bits from i on.
+// The number that the four bits from i on are the digits of.
 fn four(word: &[u8], i: usize) -> u64
     requires { ⌜ i + 3 < length (now word) ⌝ }
     ensures { λ b. ⌜ (b < 16) × (drop i (lowest (now (word .entry))) ≡ digits 4 b ++ drop (i + 4) (lowest (now (word .entry)))) ⌝ }

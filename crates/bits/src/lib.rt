@@ -1,4 +1,4 @@
-// Words, one bit to an element: their digits, the asNumber that they are the digits of, and the bits of a frame's bytes, most significant first.
+// Words, one bit to an element: their digits, the number that they are the digits of, and the bits of a frame's bytes, most significant first.
 // It knows no code, no point and no payload; what stands above has its words from here. Every function answers whatever comes in.
 ghost use mathlib.Core.Path.{_≡_};
 ghost use Prim.Native.Nat.{_*_, _%_, _^_};
@@ -33,7 +33,7 @@ pub fn put_digits(x: u32, out: &mut [u8])
     }
 }
 
-// The asNumber that bits are the digits of, modulo 2^32.
+// The number that bits are the digits of, modulo 2^32.
 pub fn as_number(bits: &[u8]) -> u32
     ensures { λ x. ⌜ x ≡ asNumber (now (bits .entry)) % 2 ^ 32 ⌝ }
 {

@@ -21,7 +21,7 @@ use Rattle.bch.specs.declared.code.Held.{Held}
 use Rattle.bits.proofs.Digits.{bits-take, bits-drop, length-digits}
 use Rattle.bits.proofs.Remainders.{remainder-lt}
 use Rattle.bch.proofs.Sounds.{scaled}
-use Rattle.bch.proofs.Tops.{digits-tops, packed-digits, tops-packed, tops-xor}
+use Rattle.bch.proofs.Tops.{digits-tops, at-top-digits, tops-at-top, tops-xor}
 use Rattle.bch.proofs.Roots.{value-remainder}
 
 module _ {h : Held} (sound : Sound h) (w : List ℕ) (bits : Bits w) (long : length w ≡ h .n) where
@@ -61,7 +61,7 @@ module _ {h : Held} (sound : Sound h) (w : List ℕ) (bits : Bits w) (long : len
   tops-behind : tops (h .n - h .k) (atTop behind) ≡ behind
   tops-behind =
       ap (λ (n : ℕ). tops n (atTop behind)) (sym behind-long)
-      ∙ tops-packed behind behind-bits (let e = behind-long in omega (arith, sound .narrow))
+      ∙ tops-at-top behind behind-bits (let e = behind-long in omega (arith, sound .narrow))
 
   tops-expected : tops (h .n - h .k) (rest * 2 ^ (192 - (h .n - h .k))) ≡ expected
   unfolding expected
@@ -92,7 +92,7 @@ module _ {h : Held} (sound : Sound h) (w : List ℕ) (bits : Bits w) (long : len
   unfolding expected
   zero-of-codeword c =
       left-is
-      ∙ ap (bitXor (rest * 2 ^ (192 - (h .n - h .k)))) (ap atTop (behind-of c) ∙ packed-digits (h .n - h .k) rest (sound .narrow) rest-lt)
+      ∙ ap (bitXor (rest * 2 ^ (192 - (h .n - h .k)))) (ap atTop (behind-of c) ∙ at-top-digits (h .n - h .k) rest (sound .narrow) rest-lt)
       ∙ xor-self (rest * 2 ^ (192 - (h .n - h .k)))
 
   -- ---- values

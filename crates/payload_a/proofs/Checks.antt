@@ -14,20 +14,20 @@ use Rattle.payload_a.specs.Check.{checkOf, withCheck}
 pub check-read : (m : List ℕ) (x : ℕ) → Bits m → x ≡ checkOf (lowest m) → x ≡ checkOf m
 check-read m x h e = e ∙ ap checkOf (lowest-same m h)
 
-pub length-checked : (m : List ℕ) → length (withCheck m) ≡ length m + 32
+pub length-with-check : (m : List ℕ) → length (withCheck m) ≡ length m + 32
 unfolding withCheck
-length-checked m = length-append m (digits 32 (checkOf m)) ∙ ap (λ (n : ℕ). length m + n) (length-digits 32 (checkOf m))
+length-with-check m = length-append m (digits 32 (checkOf m)) ∙ ap (λ (n : ℕ). length m + n) (length-digits 32 (checkOf m))
 
-pub bits-checked : (m : List ℕ) → Bits m → Bits (withCheck m)
+pub bits-with-check : (m : List ℕ) → Bits m → Bits (withCheck m)
 unfolding withCheck
-bits-checked m h = bits-append m (digits 32 (checkOf m)) h (digits-bits 32 (checkOf m))
+bits-with-check m h = bits-append m (digits 32 (checkOf m)) h (digits-bits 32 (checkOf m))
 
 -- message and check, told apart again
 module _ (p : List ℕ) (n : ℕ) (l : length p ≡ n) where
-  pub take-checked : take n (withCheck p) ≡ p
+  pub take-with-check : take n (withCheck p) ≡ p
   unfolding withCheck
-  take-checked = take-at p (digits 32 (checkOf p)) n l
+  take-with-check = take-at p (digits 32 (checkOf p)) n l
 
-  pub drop-checked : drop n (withCheck p) ≡ digits 32 (checkOf p)
+  pub drop-with-check : drop n (withCheck p) ≡ digits 32 (checkOf p)
   unfolding withCheck
-  drop-checked = drop-at p (digits 32 (checkOf p)) n l
+  drop-with-check = drop-at p (digits 32 (checkOf p)) n l

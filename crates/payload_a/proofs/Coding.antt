@@ -19,22 +19,22 @@ use Rattle.payload_a.specs.CodedA.{bytesA, information, blocksA, codedA}
 use Rattle.payload.specs.Wire.{blockAt, Fits}
 use Rattle.payload.proofs.Wires.{parts-same, Lawful, plain, coded}
 use Rattle.bch.proofs.Codewords.{information-of}
-use Rattle.payload_a.specs.Segments.{blockBits}
+use Rattle.payload_a.specs.Segments.{rowBits}
 use Rattle.payload_a.specs.PromiseA.{wireA}
 use Rattle.bits.proofs.Octets.{length-bitsOf, bits-bitsOf, bitsOf-inj}
-use Rattle.payload_a.proofs.Checks.{length-checked, bits-checked, take-checked}
+use Rattle.payload_a.proofs.Checks.{length-with-check, bits-with-check, take-with-check}
 use Rattle.payload.proofs.Scrambling.{length-scrambled, bits-scrambled, scrambled-inj}
 
 -- ---- a frame and its check, scrambled
 
 pub bits-information : (frame : List ℕ) → Bits (information frame)
 unfolding scrambled
-bits-information frame = bits-scrambled start (withCheck (bitsOf frame)) (bits-checked (bitsOf frame) (bits-bitsOf frame))
+bits-information frame = bits-scrambled start (withCheck (bitsOf frame)) (bits-with-check (bitsOf frame) (bits-bitsOf frame))
 
 pub length-information : (frame : List ℕ) → length (information frame) ≡ 8 * length frame + 32
 unfolding scrambled
 length-information frame =
-    length-scrambled start (withCheck (bitsOf frame)) ∙ length-checked (bitsOf frame) ∙ ap (λ (n : ℕ). n + 32) (length-bitsOf frame)
+    length-scrambled start (withCheck (bitsOf frame)) ∙ length-with-check (bitsOf frame) ∙ ap (λ (n : ℕ). n + 32) (length-bitsOf frame)
 
 -- ---- the two codewords of a coded frame
 
@@ -81,15 +81,15 @@ length-codedA (suc (suc mode)) frame h l = absurd (omega arith)
 
 -- ---- blocks of 784 bits
 
-pub first-block : (a b : List ℕ) → length a ≡ blockBits → blockAt blockBits 0 (a ++ b) ≡ a
-first-block a b e = take-at a b blockBits e
+pub first-block : (a b : List ℕ) → length a ≡ rowBits → blockAt rowBits 0 (a ++ b) ≡ a
+first-block a b e = take-at a b rowBits e
 
-pub second-block : (a b : List ℕ) → length a ≡ blockBits → length b ≡ blockBits → blockAt blockBits 1 (a ++ b) ≡ b
-second-block a b e f = ap (take blockBits) (drop-at a b blockBits e) ∙ take-all blockBits b (omega arith)
+pub second-block : (a b : List ℕ) → length a ≡ rowBits → length b ≡ rowBits → blockAt rowBits 1 (a ++ b) ≡ b
+second-block a b e f = ap (take rowBits) (drop-at a b rowBits e) ∙ take-all rowBits b (omega arith)
 
 -- what is written to a list as long as a block fills it
-pub filled : (v out : List ℕ) → length out ≡ blockBits → v ++ drop blockBits out ≡ v
-filled v out l = ap (λ (rest : List ℕ). v ++ rest) (drop-of-length-le out {i = blockBits} (omega arith)) ∙ append-nil v
+pub covered : (v out : List ℕ) → length out ≡ rowBits → v ++ drop rowBits out ≡ v
+covered v out l = ap (λ (rest : List ℕ). v ++ rest) (drop-of-length-le out {i = rowBits} (omega arith)) ∙ append-nil v
 
 -- what holds of both blocks
 pub each-block : (P : ℕ → Type 0) → P 0 → P 1 → (block : ℕ) → block < 2 → P block
@@ -100,18 +100,18 @@ each-block P p q (suc (suc block)) l = absurd (omega arith)
 -- ---- the blocks of a coded frame are the codewords
 
 module _ (m : ℕ) (frame : List ℕ) (long : length frame ≡ 58) where
-  pub block-0 : blockAt blockBits 0 (codedA (suc m) frame) ≡ encoded code3 (take 248 (information frame))
-  block-0 = ap (blockAt blockBits 0) (coded-twice m frame) ∙ first-block (encoded code3 (take 248 (information frame))) _ (first-codeword frame long .long)
+  pub block-0 : blockAt rowBits 0 (codedA (suc m) frame) ≡ encoded code3 (take 248 (information frame))
+  block-0 = ap (blockAt rowBits 0) (coded-twice m frame) ∙ first-block (encoded code3 (take 248 (information frame))) _ (first-codeword frame long .long)
 
-  pub block-1 : blockAt blockBits 1 (codedA (suc m) frame) ≡ encoded code3 (drop 248 (information frame))
+  pub block-1 : blockAt rowBits 1 (codedA (suc m) frame) ≡ encoded code3 (drop 248 (information frame))
   block-1 =
-      ap (blockAt blockBits 1) (coded-twice m frame)
+      ap (blockAt rowBits 1) (coded-twice m frame)
       ∙ second-block (encoded code3 (take 248 (information frame))) (encoded code3 (drop 248 (information frame)))
       (first-codeword frame long .long) (second-codeword frame long .long)
 
-  pub block-codeword : (b : ℕ) → b < 2 → Codeword code3 (blockAt blockBits b (codedA (suc m) frame))
+  pub block-codeword : (b : ℕ) → b < 2 → Codeword code3 (blockAt rowBits b (codedA (suc m) frame))
   block-codeword =
-      each-block (λ b. Codeword code3 (blockAt blockBits b (codedA (suc m) frame)))
+      each-block (λ b. Codeword code3 (blockAt rowBits b (codedA (suc m) frame)))
       (rw block-0 (first-codeword frame long)) (rw block-1 (second-codeword frame long))
 
 -- ---- what is sent says which frame it was
@@ -122,7 +122,7 @@ unfolding scrambled
 same-frame f g long bf bg e =
     let checks : withCheck (bitsOf f) ≡ withCheck (bitsOf g) = scrambled-inj start (withCheck (bitsOf f)) (withCheck (bitsOf g)) e in
     let bits : length (bitsOf f) ≡ length (bitsOf g) = length-bitsOf f ∙ ap (λ (n : ℕ). 8 * n) long ∙ sym (length-bitsOf g) in
-    bitsOf-inj f g bf bg (sym (take-checked (bitsOf f) (length (bitsOf f)) refl) ∙ ap₂ take bits checks ∙ take-checked (bitsOf g) (length (bitsOf g)) refl)
+    bitsOf-inj f g bf bg (sym (take-with-check (bitsOf f) (length (bitsOf f)) refl) ∙ ap₂ take bits checks ∙ take-with-check (bitsOf g) (length (bitsOf g)) refl)
 
 -- coded frames with the same codewords
 same-information : (m : ℕ) (f g : List ℕ) → length f ≡ 58 → length g ≡ 58 → codedA (suc m) f ≡ codedA (suc m) g → information f ≡ information g
@@ -130,9 +130,9 @@ same-information m f g lf lg e =
     let told : (v w : List ℕ) → length v ≡ 248 → length w ≡ 248 → encoded code3 v ≡ encoded code3 w → v ≡ w
     = λ v w lv lw s. sym (information-of code3 v lv) ∙ ap (take 248) s ∙ information-of code3 w lw in
     let first : take 248 (information f) ≡ take 248 (information g)
-    = told _ _ (first-long f lf) (first-long g lg) (sym (block-0 m f lf) ∙ ap (blockAt blockBits 0) e ∙ block-0 m g lg) in
+    = told _ _ (first-long f lf) (first-long g lg) (sym (block-0 m f lf) ∙ ap (blockAt rowBits 0) e ∙ block-0 m g lg) in
     let second : drop 248 (information f) ≡ drop 248 (information g)
-    = told _ _ (second-long f lf) (second-long g lg) (sym (block-1 m f lf) ∙ ap (blockAt blockBits 1) e ∙ block-1 m g lg) in
+    = told _ _ (second-long f lf) (second-long g lg) (sym (block-1 m f lf) ∙ ap (blockAt rowBits 1) e ∙ block-1 m g lg) in
     sym (take-append-drop 248 (information f)) ∙ ap₂ _++_ first second ∙ take-append-drop 248 (information g)
 
 -- the laws of the wire
@@ -154,5 +154,5 @@ lawful-a (suc m) =
 pub fits-uncoded : (w frame : List ℕ) → length w ≡ 784 → Fits (wireA 0) w frame → information frame ≡ w
 fits-uncoded w frame as-many fits =
     sym (coded-uncoded frame)
-    ∙ parts-same blockBits 2 (codedA 0 frame) w (length-codedA 0 frame (omega arith) (fits .long)) as-many
-    (λ b l. let z = fits .near b l in differ-zero (blockAt blockBits b (codedA 0 frame)) (blockAt blockBits b w) (omega arith))
+    ∙ parts-same rowBits 2 (codedA 0 frame) w (length-codedA 0 frame (omega arith) (fits .long)) as-many
+    (λ b l. let z = fits .near b l in differ-zero (blockAt rowBits b (codedA 0 frame)) (blockAt rowBits b w) (omega arith))

@@ -31,7 +31,7 @@ use Rattle.symbols.proofs.Placings.{length-placed, placed-occupied}
 use Rattle.symbols.proofs.Rooms.{room-enough}
 use Rattle.payload.specs.Wire.{blockAt, Fits}
 use Rattle.payload.proofs.Wires.{fits-clean}
-use Rattle.payload_a.specs.Segments.{blockBits, framed, carried, protected, fields}
+use Rattle.payload_a.specs.Segments.{rowBits, framed, carried, protected, fields}
 use Rattle.payload_a.specs.CodedA.{bytesA, codedA, pointsA, sentI, sentQ}
 use Rattle.payload_a.specs.PromiseA.{elementsA, placesA, sendChecked, Sends, SendingA}
 use Rattle.payload_a.specs.PromiseA.{receiveChecked, wireA, Goes, Answered, Receives, ReceivingA}
@@ -166,7 +166,7 @@ module _ (mode : ℕ) (is qs : List ℤ) (area : List ℕ) (call : Legal mode is
 
   -- each block sent differs from the one received in no more places than may differ
   abbrev Near : Type 0
-  Near = (block : ℕ) → block < 2 → differ (blockAt blockBits block (codedA mode frame)) (blockAt blockBits block word) ≤ wireA mode .mends
+  Near = (block : ℕ) → block < 2 → differ (blockAt rowBits block (codedA mode frame)) (blockAt rowBits block word) ≤ wireA mode .mends
 
   pub up-when-near : Near → GoesUp mode area answer after frame (differ (codedA mode frame) word) (differ fields (protected (dibits (received 2 is qs))))
   up-when-near near =

@@ -19,7 +19,7 @@ use Rattle.points.specs.Dqpsk.{dibits, strayAt}
 use Rattle.symbols.specs.Grid.{subCarriers, symbolPoints}
 use Rattle.symbols.specs.Grids.{received, indexOf, firstOccupied, room}
 use Rattle.payload.specs.Wire.{Wire, Fits, Mendable, FirstHopeless}
-use Rattle.payload_a.specs.Segments.{blockBits, carried, protected, fields}
+use Rattle.payload_a.specs.Segments.{rowBits, carried, protected, fields}
 use Rattle.payload_a.specs.CodedA.{bytesA, codedA, sentI, sentQ}
 
 -- the elements of I and of Q that two OFDM symbols take, and the points that they hold
@@ -59,7 +59,7 @@ receiveChecked mode is qs area =
 
 -- a frame is sent as two blocks of 392 bits, in each of which 16 may differ; uncoded, its 784 bits count as two blocks in which none may
 abbrev pub wireA : ℕ → Wire
-wireA mode = record { bytes = bytesA mode; blocks = 2; size = blockBits; mends = cond (eqb mode 0) 0 (code3 .t); sent = codedA mode }
+wireA mode = record { bytes = bytesA mode; blocks = 2; size = rowBits; mends = cond (eqb mode 0) 0 (code3 .t); sent = codedA mode }
 
 -- a frame that fits goes up, with the number of bits that differ and the number of protected bits that differ
 pub record Goes (mode : ℕ) (bits : List ℕ) (differing : ℕ) (area : List ℕ) (answer : ReceivedA) (area' : List ℕ) : Type 0 where

@@ -6,12 +6,12 @@ use Prim.Native.Nat.{ℕ, _+_, _*_}
 use lib.Dec.{leb}
 use lib.ListN.{length, take, drop, replicate}
 
--- the bits of a segment, of a block, which are two segments, and of an OFDM symbol
+-- the bits of a segment, of a row, which is a coded block and two segments, and of an OFDM symbol
 abbrev pub segmentBits : ℕ
 segmentBits = 196
 
-abbrev pub blockBits : ℕ
-blockBits = 2 * segmentBits
+abbrev pub rowBits : ℕ
+rowBits = 2 * segmentBits
 
 abbrev pub symbolBits : ℕ
 symbolBits = 420

@@ -19,7 +19,7 @@ use Rattle.points.specs.Constellations.{pointOf, labelNumber, levelI, levelQ}
 use Rattle.points.proofs.Rules.{has-point, label-of-point}
 use Rattle.symbols.specs.Grids.{received}
 use Rattle.bits.specs.Bytes.{asNumber}
-use Rattle.payload_b.specs.CodedB.{sumOf, repeated, mapped, labelHeld, labelled}
+use Rattle.payload_b.specs.CodedB.{sumOf, repeated, mapped, pointLabel, labelled}
 use Rattle.payload_b.specs.PromiseB.{strayIn}
 use Rattle.payload_b.specs.PlanB.{Scheme}
 use Rattle.bits.proofs.Numbers.{digits-number, number-low}
@@ -41,7 +41,7 @@ unfolding labelled sumOf
 length-labelled [] ps e = refl
 length-labelled (n ∷ ns) [] e = absurd (omega arith)
 length-labelled (n ∷ ns) (p ∷ ps) e =
-    length-append (digits n (labelNumber (labelHeld n p))) (labelled ns ps) ∙ ap₂ _+_ (length-digits n _) (length-labelled ns ps (omega arith))
+    length-append (digits n (labelNumber (pointLabel n p))) (labelled ns ps) ∙ ap₂ _+_ (length-digits n _) (length-labelled ns ps (omega arith))
 
 -- ---- bits become points and come back
 
@@ -59,7 +59,7 @@ module _ (n : ℕ) (bits : List ℕ) (l : 2 ≤ n) (h : n ≤ 10) (each : Bits b
   first-point : At (levelI (pointOf n (asNumber (take n bits)))) (levelQ (pointOf n (asNumber (take n bits)))) ≡ pointOf n (asNumber (take n bits))
   first-point = sym (has-point n (asNumber (take n bits)) l h first-low)
 
-  first-label : labelHeld n (pointOf n (asNumber (take n bits))) ≡ Of (asNumber (take n bits))
+  first-label : pointLabel n (pointOf n (asNumber (take n bits))) ≡ Of (asNumber (take n bits))
   first-label = label-of-point n (asNumber (take n bits)) _ _ (sym first-point)
 
 pub points-mapped : (ns bits : List ℕ) → Entries ns → Bits bits → Points (mapped ns bits)

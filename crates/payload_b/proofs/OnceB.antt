@@ -43,7 +43,7 @@ module _ (mode : ℕ) (frame scheme : List ℕ) (is qs : List ℤ) (a b : Writte
   pub send-b-once : SendingB mode frame scheme is qs a is1 qs1 → SendingB mode frame scheme is qs b is2 qs2 → (a ≡ b) × (is1 ≡ is2) × (qs1 ≡ qs2)
   send-b-once = one-sent (sendCheckedB mode frame scheme is qs)
 
--- ---- the checks 1, 2, 5 and 6: one fails, or there is a plan
+-- ---- the checks 1, 2, 5 and 6: one fails, or there is a sendable
 
 pub by-plan : (P : Checked Unit → Type 0) (mode n : ℕ) (scheme : List ℕ) (next : Checked Unit) → ((number place : ℕ) → 0 < number → P (fails number place))
     → (Sendable mode n scheme → P next) → P (planned mode n scheme next)
@@ -70,7 +70,7 @@ by-plan P mode n scheme next failed planning =
           few = leb-true (symbolsFor mode n scheme) 256 few;
         }
 
--- a verdict is what they find, with the plan
+-- a verdict is what they find, with the sendable
 judgedOf : Plan → Checked Unit → Verdict
 judgedOf plan (fails number place) = Fails (refusalOf (refused number place))
 judgedOf plan (passes _) = Passes plan
@@ -87,22 +87,22 @@ judged-once mode n scheme a b p q = sym (judged-of mode n scheme a p) ∙ judged
 
 -- the bits received are as many as were sent
 pub length-bits : {mode n : ℕ} {scheme : List ℕ} → Sendable mode n scheme → (is qs : List ℤ) → length (bitsReceived mode n scheme is qs) ≡ bitsFor mode n
-length-bits {mode} {n} {scheme} plan is qs =
+length-bits {mode} {n} {scheme} sendable is qs =
     let m = symbolsFor mode n scheme in
     length-take-le (bitsFor mode n) (labelled (repeated m scheme) (received m is qs))
-    (rw (length-symbols scheme (plan .entries .long) m is qs) (symbols-hold plan))
+    (rw (length-symbols scheme (sendable .entries .long) m is qs) (symbols-hold sendable))
 
 module _ (area : List ℕ) (a b : ReceivedB) (u v : List ℕ) where
-  module _ {mode n : ℕ} {scheme : List ℕ} (plan : Sendable mode n scheme) (bits : List ℕ) (long : length bits ≡ bitsFor mode n) where
+  module _ {mode n : ℕ} {scheme : List ℕ} (sendable : Sendable mode n scheme) (bits : List ℕ) (long : length bits ≡ bitsFor mode n) where
     -- where a frame fits, no block is hopeless
     not-hopeless : (frame : List ℕ) → Fits (wireB mode n) bits frame → mode ≢ 0 → (block : ℕ) → FirstHopeless (codeB mode) (blocksIn mode n) bits block → ⊥
     not-hopeless frame fits not =
-        let c = coded mode (plan .known) not in
-        fits-hopeless (wireB mode n) (codeB mode) (sym (c .whole)) (sym (c .mends)) (codeword-b mode n (plan .known) (plan .whole) not) bits frame fits
+        let c = coded mode (sendable .known) not in
+        fits-hopeless (wireB mode n) (codeB mode) (sym (c .whole)) (sym (c .mends)) (codeword-b mode n (sendable .known) (sendable .whole) not) bits frame fits
 
     answered-same : ReceivesB (passes tt) mode n bits area a u → ReceivesB (passes tt) mode n bits area b v → (a ≡ b) × (u ≡ v)
     answered-same (inl p) (inl q) =
-        let same = fits-onceB mode n (plan .known) (plan .whole) bits (p .frame) (q .frame) long (p .fits) (q .fits) in
+        let same = fits-onceB mode n (sendable .known) (sendable .whole) bits (p .frame) (q .frame) long (p .fits) (q .fits) in
         (received-b-same a b (cc), cc)
     answered-same (inl p) (inr q) = absurd (not-hopeless (p .frame) (p .fits) (q .coded) (q .block) (q .hopeless))
     answered-same (inr p) (inl q) = absurd (not-hopeless (q .frame) (q .fits) (p .coded) (p .block) (p .hopeless))
@@ -112,7 +112,7 @@ module _ (area : List ℕ) (a b : ReceivedB) (u v : List ℕ) where
 
   pub receive-b-once : (mode n : ℕ) (scheme : List ℕ) (is qs : List ℤ) → ReceivingB mode n scheme is qs area a u → ReceivingB mode n scheme is qs area b v
       → (a ≡ b) × (u ≡ v)
-  receive-b-once mode n scheme is qs = by-plan Same mode n scheme next (λ number place _. failed number place) (λ plan. one plan next)
+  receive-b-once mode n scheme is qs = by-plan Same mode n scheme next (λ number place _. failed number place) (λ sendable. one sendable next)
     where
       next : Checked Unit
       next = gridChecked (symbolsFor mode n scheme) n scheme is qs area
@@ -127,5 +127,5 @@ module _ (area : List ℕ) (a b : ReceivedB) (u v : List ℕ) where
       failed number place p q = (received-b-same a b (cc), cc)
 
       one : Sendable mode n scheme → (k : Checked Unit) → Same k
-      one plan (fails number place) = failed number place
-      one plan (passes _) = answered-same plan bits (length-bits plan is qs)
+      one sendable (fails number place) = failed number place
+      one sendable (passes _) = answered-same sendable bits (length-bits sendable is qs)

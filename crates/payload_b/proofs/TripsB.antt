@@ -52,16 +52,16 @@ module _ (mode : ℕ) (frame scheme : List ℕ) where
   sent-long level = length-placed level m (pointsB mode frame scheme)
 
   -- it stands at the front of two lists
-  module _ (plan : Sendable mode (length frame) scheme) (is qs : List ℤ) (i : take (256 * m) is ≡ sentB levelI mode frame scheme)
+  module _ (sendable : Sendable mode (length frame) scheme) (is qs : List ℤ) (i : take (256 * m) is ≡ sentB levelI mode frame scheme)
       (q : take (256 * m) qs ≡ sentB levelQ mode frame scheme) where
     abbrev filled : List ℕ
     filled = filledUp (sumOf scheme * m) (codedB mode frame)
 
     coded-long : length (codedB mode frame) ≡ bitsFor mode (length frame)
-    coded-long = length-coded mode frame (plan .whole)
+    coded-long = length-coded mode frame (sendable .whole)
 
     filled-long : length filled ≡ sumOf scheme * m
-    filled-long = rw (length-append, length-replicate) (omega (arith, coded-long, symbols-hold plan))
+    filled-long = rw (length-append, length-replicate) (omega (arith, coded-long, symbols-hold sendable))
 
     filled-bits : Bits filled
     filled-bits = bits-append (codedB mode frame) _ (bits-codedB mode frame) (bits-zeros (sumOf scheme * m - length (codedB mode frame)))
@@ -70,20 +70,20 @@ module _ (mode : ℕ) (frame scheme : List ℕ) where
     unfolding sentB pointsB
     points-back =
         sym (received-take m (256 * m) is qs (omega arith)) ∙ ap₂ (received m) i q
-        ∙ received-placed m (mapped (repeated m scheme) filled) (length-mapped (repeated m scheme) filled ∙ repeated-long scheme (plan .entries .long) m)
-        (points-mapped (repeated m scheme) filled (entries-repeated (plan .entries) m) filled-bits)
+        ∙ received-placed m (mapped (repeated m scheme) filled) (length-mapped (repeated m scheme) filled ∙ repeated-long scheme (sendable .entries .long) m)
+        (points-mapped (repeated m scheme) filled (entries-repeated (sendable .entries) m) filled-bits)
 
     -- the bits of the points, the fill left out
     bits-back : bitsReceived mode (length frame) scheme is qs ≡ codedB mode frame
     bits-back =
         ap (take (bitsFor mode (length frame))) (ap (labelled (repeated m scheme)) points-back
-        ∙ labelled-mapped (repeated m scheme) filled (entries-repeated (plan .entries) m) filled-bits (filled-long ∙ sym (sum-repeated scheme m)))
+        ∙ labelled-mapped (repeated m scheme) filled (entries-repeated (sendable .entries) m) filled-bits (filled-long ∙ sym (sum-repeated scheme m)))
         ∙ take-at (codedB mode frame) _ (bitsFor mode (length frame)) coded-long
 
     none-stray : strayIn (repeated m scheme) (received m is qs) ≡ 210 * m
     none-stray =
-        ap (strayIn (repeated m scheme)) points-back ∙ stray-mapped (repeated m scheme) filled (entries-repeated (plan .entries) m) filled-bits
-        ∙ repeated-long scheme (plan .entries .long) m
+        ap (strayIn (repeated m scheme)) points-back ∙ stray-mapped (repeated m scheme) filled (entries-repeated (sendable .entries) m) filled-bits
+        ∙ repeated-long scheme (sendable .entries .long) m
 
     none-occupied : firstOccupied is qs 0 (256 * m) ≡ 256 * m
     unfolding sentB
@@ -114,14 +114,14 @@ module _ (mode n : ℕ) (scheme : List ℕ) (is qs : List ℤ) (area : List ℕ)
       failed number place l p = absurd (not-refused tells (p .0) l)
 
       answered : Sendable mode n scheme → P (passes tt)
-      answered plan (inl p) = (plan, p)
-      answered plan (inr p) = absurd (not-refused tells (p .tells) (omega arith))
+      answered sendable (inl p) = (sendable, p)
+      answered sendable (inr p) = absurd (not-refused tells (p .tells) (omega arith))
 
       by-grid : Sendable mode n scheme → P (gridChecked m n scheme is qs area)
-      by-grid plan =
+      by-grid sendable =
           by-test P (room (256 * m) is qs && leb n (length area))
           (λ _. by-test P (ltb (firstOccupied is qs 0 (256 * m)) (256 * m)) (λ _. failed 7 _ (omega arith))
-          (λ _. by-test P (ltb (strayIn (repeated m scheme) (received m is qs)) (210 * m)) (λ _. failed 8 _ (omega arith)) (λ _. answered plan)))
+          (λ _. by-test P (ltb (strayIn (repeated m scheme) (received m is qs)) (210 * m)) (λ _. failed 8 _ (omega arith)) (λ _. answered sendable)))
           (λ _. failed 3 0 (omega arith))
 
   up-is : take n after ≡ goes .1 .frame
@@ -143,7 +143,7 @@ module _ (mode n : ℕ) (scheme : List ℕ) (is qs : List ℤ) (area : List ℕ)
 
 -- a call of legal lengths and scheme, with legal points and empty unavailable sub-carriers
 pub record LegalB (mode n : ℕ) (scheme : List ℕ) (is qs : List ℤ) (area : List ℕ) : Type 0 where
-  pub plan : Sendable mode n scheme
+  pub sendable : Sendable mode n scheme
   pub long-i : 256 * symbolsFor mode n scheme ≤ length is
   pub long-q : 256 * symbolsFor mode n scheme ≤ length qs
   pub room : n ≤ length area
@@ -167,7 +167,7 @@ module _ (mode n : ℕ) (scheme : List ℕ) (is qs : List ℤ) (area : List ℕ)
   up-when-near near =
       let m = symbolsFor mode n scheme in
       let there : ReceivingB mode n scheme is qs area (Accepted (differ (codedB mode frame) word)) (frame ++ drop n area)
-      = receivable P (call .plan) is qs area (room-enough (256 * m) is qs (call .long-i) (call .long-q)) (call .room)
+      = receivable P (call .sendable) is qs area (room-enough (256 * m) is qs (call .long-i) (call .long-q)) (call .room)
       (legal P m scheme is qs (omega (arith, call .empty)) (omega (arith, call .legal))
       (inl (record { frame = frame; fits = record { long = long; bytes = bytes; near = near }; tells = refl; left = refl }))) in
       let same = receive-b-once area answer _ after _ mode n scheme is qs receiving there in
@@ -197,7 +197,7 @@ module _ (mode : ℕ) (frame scheme : List ℕ) (is qs : List ℤ) (sent : Writt
 
   made : Made
   made =
-      by-plan P mode (length frame) scheme _ failed (λ plan. by-test P (room (256 * symbols) is qs) (λ _ p. (plan, p .1, p .2)) (λ _. failed 3 0 (omega arith)))
+      by-plan P mode (length frame) scheme _ failed (λ sendable. by-test P (room (256 * symbols) is qs) (λ _ p. (sendable, p .1, p .2)) (λ _. failed 3 0 (omega arith)))
       sending
     where
       P : Checked Unit → Type 0
@@ -220,17 +220,17 @@ module _ (mode : ℕ) (frame scheme : List ℕ) (is qs : List ℤ) (sent : Writt
     -- clean points give back the frame that was sent, with nothing mended
     pub round-trip : (answer ≡ Accepted 0) × (after ≡ frame ++ drop (length frame) area)
     round-trip =
-        let plan = made .0 in
+        let sendable = made .0 in
         let i = front levelI is is' (made .1) in
         let q = front levelQ qs qs' (made .2) in
-        let same = bits-back mode frame scheme plan is' qs' (i .0) (q .0) in
+        let same = bits-back mode frame scheme sendable is' qs' (i .0) (q .0) in
         let call : LegalB mode (length frame) scheme is' qs' area = record {
-          plan = plan;
+          sendable = sendable;
           long-i = i .1;
           long-q = q .1;
           room = roomy;
-          empty = none-occupied mode frame scheme plan is' qs' (i .0) (q .0);
-          legal = none-stray mode frame scheme plan is' qs' (i .0) (q .0);
+          empty = none-occupied mode frame scheme sendable is' qs' (i .0) (q .0);
+          legal = none-stray mode frame scheme sendable is' qs' (i .0) (q .0);
         } in
         let up = up-when-near mode (length frame) scheme is' qs' area call answer after receiving frame bytes refl
         (rw same (fits-clean (wireB mode (length frame)) frame refl bytes .near)) in

@@ -87,11 +87,11 @@ sentB level mode frame scheme = placed level (symbolsFor mode (length frame) sch
 -- ---- and back
 
 -- the label of a point of n bits
-abbrev pub labelHeld : ℕ → Point → Label
-labelHeld n p = labelOf n (levelI p) (levelQ p)
+abbrev pub pointLabel : ℕ → Point → Label
+pointLabel n p = labelOf n (levelI p) (levelQ p)
 
 -- the bits that points stand for: of each, its label in as many bits as its entry of the scheme says, b(n-1) first
 unfoldable pub labelled : List ℕ → List Point → List ℕ
 labelled [] ps = []
 labelled (n ∷ ns) [] = []
-labelled (n ∷ ns) (p ∷ ps) = digits n (labelNumber (labelHeld n p)) ++ labelled ns ps
+labelled (n ∷ ns) (p ∷ ps) = digits n (labelNumber (pointLabel n p)) ++ labelled ns ps

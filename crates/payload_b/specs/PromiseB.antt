@@ -20,11 +20,11 @@ use Rattle.points.specs.Constellations.{isStray, levelI, levelQ}
 use Rattle.symbols.specs.Grid.{subCarriers, symbolPoints}
 use Rattle.symbols.specs.Grids.{received, indexOf, firstOccupied, room}
 use Rattle.payload.specs.Wire.{Wire, Fits, FirstHopeless}
-use Rattle.payload_b.specs.CodedB.{blockBytes, blockBits, codeB, blocksIn, bitsFor, codedB, symbolsFor, repeated, sentB, labelHeld, labelled}
+use Rattle.payload_b.specs.CodedB.{blockBytes, blockBits, codeB, blocksIn, bitsFor, codedB, symbolsFor, repeated, sentB, pointLabel, labelled}
 
 -- ---- the checks 1, 2, 5 and 6, which both directions begin with
 
--- no frame needs more OFDM symbols
+-- a frame that needs more OFDM symbols is refused
 abbrev pub mostSymbols : ℕ
 mostSymbols = 256
 
@@ -65,7 +65,7 @@ SendingB mode frame scheme is qs = SendsB (sendCheckedB mode frame scheme is qs)
 
 -- the place of the first point that is none of its sub-carrier's constellation; the number of points where there is none
 abbrev pub strayIn : List ℕ → List Point → ℕ
-strayIn scheme ps = firstIn isStray (zipWith labelHeld scheme ps)
+strayIn scheme ps = firstIn isStray (zipWith pointLabel scheme ps)
 
 -- checks 7 and 8, over m OFDM symbols: 7 over all before 8 begins
 abbrev pub pointsCheckedB : ℕ → List ℕ → List ℤ → List ℤ → Checked Unit

@@ -9,7 +9,7 @@ ghost use Rattle.payload_b.specs.PlanB.{Judged};
 use answers::Refusal;
 use symbols::grid::POINTS;
 
-// No frame needs more OFDM symbols.
+// A frame that needs more OFDM symbols is refused.
 pub const MOST_SYMBOLS: usize = 256;
 
 // The bytes of a block.

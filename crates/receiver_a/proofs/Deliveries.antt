@@ -10,7 +10,7 @@ use Rattle.bits.specs.Bytes.{bitsOf}
 use Rattle.payload_a.specs.Check.{checkOf, withCheck}
 use Rattle.payload.specs.Scrambler.{start, scrambled, scrambledFrom}
 use Rattle.payload_a.specs.CodedA.{information}
-use Rattle.payload_a.proofs.Checks.{take-checked, drop-checked}
+use Rattle.payload_a.proofs.Checks.{take-with-check, drop-with-check}
 use Rattle.payload.proofs.Scrambling.{scrambled-again}
 
 -- the bits unscrambled are a message, with this check, and the rest
@@ -33,5 +33,5 @@ module _ {bits message rest : List ℕ} {check : ℕ} (parted : Parted bits mess
       let p = bitsOf frame in
       let n = length message in
       let all : message ++ rest ≡ withCheck p = parted .whole ∙ ap (scrambledFrom start) (sym e) ∙ scrambled-again start (withCheck p) in
-      let first : message ≡ p = sym (take-at message rest n refl) ∙ ap (take n) all ∙ take-checked p n long in
-      wrong (sym (drop-at message rest n refl) ∙ ap (drop n) all ∙ drop-checked p n long ∙ ap (digits 32) (ap checkOf (sym first) ∙ sym (parted .formed)))
+      let first : message ≡ p = sym (take-at message rest n refl) ∙ ap (take n) all ∙ take-with-check p n long in
+      wrong (sym (drop-at message rest n refl) ∙ ap (drop n) all ∙ drop-with-check p n long ∙ ap (digits 32) (ap checkOf (sym first) ∙ sym (parted .formed)))

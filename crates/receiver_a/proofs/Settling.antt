@@ -22,11 +22,11 @@ use Rattle.bch.specs.Promise.{Decoding}
 use Rattle.bch.proofs.Codewords.{by-answer, told}
 use Rattle.payload.specs.Wire.{blockAt, Fits, Mendable}
 use Rattle.payload.proofs.Wires.{fits-clean}
-use Rattle.payload_a.specs.Segments.{blockBits}
+use Rattle.payload_a.specs.Segments.{rowBits}
 use Rattle.payload_a.specs.CodedA.{information, blocksA, codedA}
 use Rattle.payload_a.specs.PromiseA.{wireA, Answered}
 use Rattle.payload_a.proofs.Coding.{bits-information, first-long, second-long, coded-uncoded, fits-uncoded}
-use Rattle.payload_a.proofs.Coding.{first-block, second-block, filled, each-block, block-0, block-1}
+use Rattle.payload_a.proofs.Coding.{first-block, second-block, covered, each-block, block-0, block-1}
 use Rattle.receiver_a.specs.Steps.{Pair, Delivered, settledAs}
 
 -- ---- two words of n bits, one behind the other
@@ -70,21 +70,21 @@ abbrev pub Mends : List ℕ → List ℕ → Decoded → Type 0
 Mends row v (decoded.Accepted n) = Within code3 row v × (n ≡ differ v row)
 Mends row v (decoded.Refused r) = (v : List ℕ) → Within code3 row v → ⊥
 
-pub row-mended : (row out after : List ℕ) (answer : Decoded) → Bits row → length row ≡ blockBits → length out ≡ blockBits
+pub row-mended : (row out after : List ℕ) (answer : Decoded) → Bits row → length row ≡ rowBits → length out ≡ rowBits
     → Decoding 3 row out answer after → Mends row after answer
 row-mended row out after answer bits long room =
     by-answer 3 refl row out answer after bits long (omega arith) (Mends row after)
-    (λ n m. let e = m .left ∙ filled (m .codeword) out room in
+    (λ n m. let e = m .left ∙ covered (m .codeword) out room in
     (rw e (m .within), ap (λ (t : Told). t .mended) (m .tells) ∙ ap (λ (v : List ℕ). differ v row) (sym e)))
     (λ r h. h .none)
 
 -- ---- a coded frame
 
-module _ {a b : List ℕ} (rows : Pair blockBits a b) (area : List ℕ) (u : ℕ) where
-  first-is : blockAt blockBits 0 (a ++ b) ≡ a
+module _ {a b : List ℕ} (rows : Pair rowBits a b) (area : List ℕ) (u : ℕ) where
+  first-is : blockAt rowBits 0 (a ++ b) ≡ a
   first-is = first-block a b (rows .first-long)
 
-  second-is : blockAt blockBits 1 (a ++ b) ≡ b
+  second-is : blockAt rowBits 1 (a ++ b) ≡ b
   second-is = second-block a b (rows .first-long) (rows .second-long)
 
   -- no codeword within 16 of the first block
@@ -153,7 +153,7 @@ module _ {a b : List ℕ} (rows : Pair blockBits a b) (area : List ℕ) (u : ℕ
             fits = record {
               long = l ∙ length-take-le 58 area room;
               bytes = bytes;
-              near = each-block (λ block. differ (blockAt blockBits block (codedA 1 part)) (blockAt blockBits block (a ++ b)) ≤ 16)
+              near = each-block (λ block. differ (blockAt rowBits block (codedA 1 part)) (blockAt rowBits block (a ++ b)) ≤ 16)
                   (rw (made, first-block v w lv, first-is) (hv .near)) (rw (made, second-block v w lv (hw .codeword .long), second-is) (hw .near));
             };
             tells = ap (λ (n : ℕ). accepted n u) (em ∙ sym (ap (λ (x : List ℕ). differ x (a ++ b)) made ∙ differ-append v a w b (lv ∙ sym (rows .first-long))));

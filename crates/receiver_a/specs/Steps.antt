@@ -8,7 +8,7 @@ use Prim.Native.Nat.{ℕ}
 use lib.ListN.{length, getD}
 use Rattle.bits.specs.Words.{Bits}
 use Rattle.bits.specs.Bytes.{Bytes}
-use Rattle.payload_a.specs.Segments.{blockBits}
+use Rattle.payload_a.specs.Segments.{rowBits}
 use Rattle.payload_a.specs.CodedA.{information}
 use Rattle.answers.specs.declared.Refusal.the-variants.{WrongCheck}
 use Rattle.answers.specs.declared.ReceivedA.{ReceivedA}
@@ -23,7 +23,7 @@ pub record Pair (n : ℕ) (first second : List ℕ) : Type 0 where
 
 -- two rows, each of the bits of a block
 abbrev pub Rows : List (List ℕ) → Type 0
-Rows rows = Pair blockBits (getD rows 0 []) (getD rows 1 [])
+Rows rows = Pair rowBits (getD rows 0 []) (getD rows 1 [])
 
 -- their 784 bits
 abbrev pub flatOf : List (List ℕ) → List ℕ

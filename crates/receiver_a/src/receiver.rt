@@ -8,7 +8,7 @@ ghost use Rattle.bits.specs.Words.{Bits, digits};
 ghost use Rattle.points.specs.Dqpsk.{dibits};
 ghost use Rattle.symbols.specs.Grids.{received};
 ghost use Rattle.bch.specs.Codes.{code3};
-ghost use Rattle.payload_a.specs.Segments.{blockBits, symbolBits};
+ghost use Rattle.payload_a.specs.Segments.{rowBits, symbolBits};
 ghost use Rattle.payload_a.specs.CodedA.{bytesA};
 ghost use Rattle.answers.specs.Checks.{passes};
 ghost use Rattle.payload_a.specs.PromiseA.{elementsA, pointsChecked, Answered, Receives};
@@ -77,7 +77,7 @@ fn uncoded(rows: [[u8; BLOCK]; 2], differing: usize, area: &mut [u8]) -> Receive
 
 // The information of two codewords, 248 bits of each.
 fn information(first: &[u8], second: &[u8]) -> [u8; 496]
-    requires { ⌜ (length (now first) ≡ blockBits) × (length (now second) ≡ blockBits) ⌝ }
+    requires { ⌜ (length (now first) ≡ rowBits) × (length (now second) ≡ rowBits) ⌝ }
     ensures { λ r. ⌜ r ≡ take (code3 .k) (now (first .entry)) ++ take (code3 .k) (now (second .entry)) ⌝ }
 {
     let mut out = [0u8; 496];
@@ -88,7 +88,7 @@ fn information(first: &[u8], second: &[u8]) -> [u8; 496]
 
 // Room for a codeword of code 3.
 fn row() -> [u8; BLOCK]
-    ensures { λ r. ⌜ length r ≡ blockBits ⌝ }
+    ensures { λ r. ⌜ length r ≡ rowBits ⌝ }
 {
     [0u8; BLOCK]
 }

@@ -18,7 +18,7 @@ use Rattle.points.specs.Lent.{labelIn}
 use Rattle.points.proofs.Lending.{label-ours}
 use Rattle.symbols.specs.Grids.{pointAt, received, indexOf}
 use Rattle.symbols.proofs.Readings.{length-received, received-at}
-use Rattle.payload_b.specs.CodedB.{repeated, labelHeld, labelled}
+use Rattle.payload_b.specs.CodedB.{repeated, pointLabel, labelled}
 use Rattle.payload_b.specs.PlanB.{Scheme}
 use Rattle.payload_b.proofs.Schemes.{repeated-long, getD-repeated}
 use Rattle.payload_b.proofs.Mapping.{as-many}
@@ -34,7 +34,7 @@ labelled-append (n ∷ a) b (x ∷ p) q e = rw (labelled-append a b p q (omega a
 -- one entry and one point more
 pub labelled-snoc : (scheme : List ℕ) (ps : List Point) (s : ℕ) → s < length scheme → s < length ps
     → labelled (take (suc s) scheme) (take (suc s) ps)
-    ≡ labelled (take s scheme) (take s ps) ++ digits (getD scheme s 0) (labelNumber (labelHeld (getD scheme s 0) (getD ps s Nothing)))
+    ≡ labelled (take s scheme) (take s ps) ++ digits (getD scheme s 0) (labelNumber (pointLabel (getD scheme s 0) (getD ps s Nothing)))
 unfolding labelled
 labelled-snoc scheme ps s h k =
     let long : length (take s ps) ≡ length (take s scheme) = length-take-le s ps (omega arith) ∙ sym (length-take-le s scheme (omega arith)) in
@@ -54,14 +54,14 @@ pub label-read : {cells quadrants scheme : List ℕ} → Lent cells quadrants sc
     → r ≡ labelIn cells quadrants n x y → r ≡ labelOf n i q
 label-read lent n x y i q ei eq e = rw (lent .cells-are, lent .quadrants-are, ei, eq) at e ∙ label-ours n i q
 
-length-labels : (ns : List ℕ) (ps : List Point) → length ps ≡ length ns → length (zipWith labelHeld ns ps) ≡ length ns
+length-labels : (ns : List ℕ) (ps : List Point) → length ps ≡ length ns → length (zipWith pointLabel ns ps) ≡ length ns
 unfolding zipWith
 length-labels [] ps e = refl
 length-labels (n ∷ ns) [] e = absurd (omega arith)
 length-labels (n ∷ ns) (p ∷ ps) e = ap suc (length-labels ns ps (omega arith))
 
 label-at : (ns : List ℕ) (ps : List Point) (i : ℕ) → i < length ns → i < length ps
-    → getD (zipWith labelHeld ns ps) i Stray ≡ labelHeld (getD ns i 0) (getD ps i Nothing)
+    → getD (zipWith pointLabel ns ps) i Stray ≡ pointLabel (getD ns i 0) (getD ps i Nothing)
 unfolding zipWith
 label-at [] ps i h k = absurd (omega arith)
 label-at (n ∷ ns) [] i h k = absurd (omega arith)
@@ -71,13 +71,13 @@ label-at (n ∷ ns) (p ∷ ps) (suc i) h k = label-at ns ps i (omega arith) (ome
 -- those of m OFDM symbols
 module _ {scheme : List ℕ} (good : Scheme scheme) (m : ℕ) (is qs : List ℤ) where
   abbrev pub labels : List Label
-  labels = zipWith labelHeld (repeated m scheme) (received m is qs)
+  labels = zipWith pointLabel (repeated m scheme) (received m is qs)
 
   pub labels-long : length labels ≡ 210 * m
   labels-long = length-labels _ _ (as-many scheme (good .long) m is qs) ∙ repeated-long scheme (good .long) m
 
-  pub labels-at : (place : ℕ) → place < 210 * m → getD labels place Stray ≡ labelHeld (getD scheme (place % 210) 0) (pointAt is qs (indexOf place))
+  pub labels-at : (place : ℕ) → place < 210 * m → getD labels place Stray ≡ pointLabel (getD scheme (place % 210) 0) (pointAt is qs (indexOf place))
   labels-at place l =
       let entry : getD (repeated m scheme) place 0 ≡ getD scheme (place % 210) 0 = rw (good .long) at (getD-repeated scheme m place (rw (good .long) l)) in
       label-at _ _ place (omega (arith, repeated-long scheme (good .long) m)) (omega (arith, length-received m is qs))
-      ∙ ap₂ labelHeld entry (received-at m is qs place l)
+      ∙ ap₂ pointLabel entry (received-at m is qs place l)

@@ -34,17 +34,17 @@ use Rattle.receiver_b.proofs.Taking.{began-taken, all-done}
 
 module _ (scheme : List ℕ) (is qs : List ℤ) where
   -- the bits of m OFDM symbols
-  abbrev pub symbolBits : ℕ → List ℕ
-  symbolBits m = labelled (repeated m scheme) (received m is qs)
+  abbrev pub bitsOfSymbols : ℕ → List ℕ
+  bitsOfSymbols m = labelled (repeated m scheme) (received m is qs)
 
-  pub symbol-none : symbolBits 0 ≡ []
+  pub symbol-none : bitsOfSymbols 0 ≡ []
   unfolding labelled repeated
   symbol-none = refl
 
   -- those of one more, read from the part of the lists that belongs to it
   pub symbol-part : length scheme ≡ 210 → (m : ℕ)
-      → symbolBits (m + 1)
-      ≡ symbolBits m
+      → bitsOfSymbols (m + 1)
+      ≡ bitsOfSymbols m
       ++ labelled scheme (pointsFrom (take (256 * m + 256 - 256 * m) (drop (256 * m) is)) (take (256 * m + 256 - 256 * m) (drop (256 * m) qs)) 1 210)
   symbol-part long m =
       let size : 256 * m + 256 - 256 * m ≡ 256 = omega arith in
@@ -59,7 +59,7 @@ module _ (scheme : List ℕ) (is qs : List ℤ) where
 module _ {mode n : ℕ} {scheme : List ℕ} (plan : Sendable mode n scheme) (is qs : List ℤ) where
   -- the bits of all OFDM symbols
   abbrev all : List ℕ
-  all = symbolBits scheme is qs (symbolsFor mode n scheme)
+  all = bitsOfSymbols scheme is qs (symbolsFor mode n scheme)
 
   -- they hold all blocks
   symbols-enough : bitsFor mode n ≤ length all
@@ -67,7 +67,7 @@ module _ {mode n : ℕ} {scheme : List ℕ} (plan : Sendable mode n scheme) (is 
 
   -- taken in by this plan, from the beginning
   pub all-taken : {p : Plan} {from : Stream} {area area' held : List ℕ} {s : Tally} → p ≡ planOf mode n scheme → from ≡ began
-      → TakesIn mode (p .blocks) (symbolBits scheme is qs (p .symbols)) area (from .block) (from .tally) area' held s
+      → TakesIn mode (p .blocks) (bitsOfSymbols scheme is qs (p .symbols)) area (from .block) (from .tally) area' held s
       → TakesIn mode (blocksIn mode n) all area (began .block) (began .tally) area' held s
   all-taken ep ef on = rw (ep, ef) at on
 

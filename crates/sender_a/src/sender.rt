@@ -5,7 +5,7 @@ ghost use Prim.Native.Nat.{_+_, _*_, _≤_};
 ghost use lib.ListN.{length, take, drop};
 ghost use Rattle.bits.specs.Words.{Bits, digits};
 ghost use Rattle.bch.specs.Codes.{code3, encoded};
-ghost use Rattle.payload_a.specs.Segments.{segmentBits, blockBits, symbolOf, framed};
+ghost use Rattle.payload_a.specs.Segments.{segmentBits, rowBits, symbolOf, framed};
 ghost use Rattle.payload_a.specs.PromiseA.{elementsA};
 ghost use Rattle.payload_a.specs.CodedA.{bytesA, information, blocksA, codedA, sentI, sentQ};
 ghost use Rattle.points.specs.Constellations.{levelI, levelQ};
@@ -99,7 +99,7 @@ fn carried(mode: u8, frame: &[u8]) -> [u8; CARRIED]
 
 // The bits of an OFDM symbol with two segments.
 fn symbol(block: &[u8]) -> [u8; SYMBOL]
-    requires { ⌜ length (now block) ≡ blockBits ⌝ }
+    requires { ⌜ length (now block) ≡ rowBits ⌝ }
     ensures { λ r. ⌜ r ≡ symbolOf (take segmentBits (now (block .entry))) (drop segmentBits (now (block .entry))) ⌝ }
 {
     let mut out = [0u8; SYMBOL];
@@ -113,7 +113,7 @@ fn symbol(block: &[u8]) -> [u8; SYMBOL]
 
 // The levels of the OFDM symbol that carries a block of bits, from the phase before it.
 fn turn_block(phase: u16, block: &[u8]) -> Turned
-    requires { ⌜ Bits (now block) × (length (now block) ≡ blockBits) ⌝ }
+    requires { ⌜ Bits (now block) × (length (now block) ≡ rowBits) ⌝ }
     ensures { λ r. ⌜ r ≡ turnedOn phase (symbolOf (take segmentBits (now (block .entry))) (drop segmentBits (now (block .entry)))) ⌝ }
 {
     phases::turn_bits(phase, &symbol(block))
@@ -130,7 +130,7 @@ fn put_both(first: &[i16], second: &[i16], out: &mut [i16])
 
 // Puts the points of 784 bits onto the two OFDM symbols.
 fn put_points(bits: &[u8], i: &mut [i16], q: &mut [i16])
-    requires { ⌜ Bits (now bits) × (length (now bits) ≡ 2 * blockBits) × (elementsA ≤ length (now i)) × (elementsA ≤ length (now q)) ⌝ }
+    requires { ⌜ Bits (now bits) × (length (now bits) ≡ 2 * rowBits) × (elementsA ≤ length (now i)) × (elementsA ≤ length (now q)) ⌝ }
     ensures { λ _. ⌜ (now (i .exit) ≡ placed levelI 2 (turned (framed (now (bits .entry)))) ++ drop elementsA (now (i .entry))) × (now (q .exit) ≡ placed levelQ 2 (turned (framed (now (bits .entry)))) ++ drop elementsA (now (q .entry))) ⌝ }
 {
     let first = turn_block(0, &bits[0..BLOCK]);

@@ -1,4 +1,4 @@
--- Supplied Payload B block by block, and then the last OFDM symbol.
+-- Sending Payload B block by block, and then the last OFDM symbol.
 -- Assumes nothing.
 use mathlib.Core.Path.{_≡_, refl, sym, ap, _∙_}
 use mathlib.Core.List.{List, [], _++_}

@@ -8,21 +8,21 @@ use native.Mathlib.Omega.{arith}
 use lib.ListN.{length, getD}
 use lib.Seq.{getD-append-add}
 use Rattle.symbols.specs.Grid.{carrierOf}
-use Rattle.symbols.proofs.Placement.{place-zero, place-low, place-high, place-beyond}
+use Rattle.symbols.proofs.Placement.{carrier-of-zero, carrier-of-low, carrier-of-high, carrier-of-beyond}
 use Rattle.symbols.specs.Grids.{indexOf}
 
-pub place-lt : (s : ℕ) → carrierOf s < 256
-place-lt s = by (decLe 1 s) (decLe s 105) (decLe s 210)
+pub carrier-of-lt : (s : ℕ) → carrierOf s < 256
+carrier-of-lt s = by (decLe 1 s) (decLe s 105) (decLe s 210)
   where
     by : Dec (1 ≤ s) → Dec (s ≤ 105) → Dec (s ≤ 210) → carrierOf s < 256
-    by (no l) m h = let z : s ≡ 0 = omega arith in omega (arith, ap carrierOf z ∙ place-zero)
-    by (yes l) (yes m) h = omega (arith, place-low s l m)
-    by (yes l) (no m) (yes h) = omega (arith, place-high s (omega arith) h)
-    by (yes l) (no m) (no h) = omega (arith, place-beyond s (omega arith))
+    by (no l) m h = let z : s ≡ 0 = omega arith in omega (arith, ap carrierOf z ∙ carrier-of-zero)
+    by (yes l) (yes m) h = omega (arith, carrier-of-low s l m)
+    by (yes l) (no m) (yes h) = omega (arith, carrier-of-high s (omega arith) h)
+    by (yes l) (no m) (no h) = omega (arith, carrier-of-beyond s (omega arith))
 
 pub index-lt : (m place : ℕ) → place < 210 * m → indexOf place < 256 * m
 unfolding indexOf
-index-lt m place h = omega (arith, place-lt (suc (place % 210)))
+index-lt m place h = omega (arith, carrier-of-lt (suc (place % 210)))
 
 -- the places of the first OFDM symbol, and those behind it
 pub index-first : (place : ℕ) → place < 210 → indexOf place ≡ carrierOf (suc place)

@@ -49,21 +49,21 @@ carrier-beyond k a = rw (above 1 105 k (omega arith), above 151 255 k a)
 
 -- ---- where the symbols stand
 
-pub place-zero : carrierOf 0 ≡ 0
+pub carrier-of-zero : carrierOf 0 ≡ 0
 unfolding carrierOf
-place-zero = refl
+carrier-of-zero = refl
 
-pub place-low : (s : ℕ) → 1 ≤ s → s ≤ 105 → carrierOf s ≡ s + 150
+pub carrier-of-low : (s : ℕ) → 1 ≤ s → s ≤ 105 → carrierOf s ≡ s + 150
 unfolding carrierOf
-place-low s a b = rw (inside 1 105 s a b)
+carrier-of-low s a b = rw (inside 1 105 s a b)
 
-pub place-high : (s : ℕ) → 106 ≤ s → s ≤ 210 → carrierOf s ≡ s - 105
+pub carrier-of-high : (s : ℕ) → 106 ≤ s → s ≤ 210 → carrierOf s ≡ s - 105
 unfolding carrierOf
-place-high s a b = rw (above 1 105 s a, inside 106 210 s a b)
+carrier-of-high s a b = rw (above 1 105 s a, inside 106 210 s a b)
 
-pub place-beyond : (s : ℕ) → 211 ≤ s → carrierOf s ≡ 0
+pub carrier-of-beyond : (s : ℕ) → 211 ≤ s → carrierOf s ≡ 0
 unfolding carrierOf
-place-beyond s a = rw (above 1 105 s (omega arith), above 106 210 s a)
+carrier-of-beyond s a = rw (above 1 105 s (omega arith), above 106 210 s a)
 
 -- ---- there and back
 
@@ -82,8 +82,8 @@ pub carrier-place : (s : ℕ) → 1 ≤ s → s ≤ 210 → carrierAt (carrierOf
 carrier-place s a b = by (decLe s 105)
   where
     by : Dec (s ≤ 105) → carrierAt (carrierOf s) ≡ Holds s
-    by (yes h) = ap carrierAt (place-low s a h) ∙ carrier-high (s + 150) (omega arith) (omega arith) ∙ ap Holds (omega arith)
-    by (no h) = ap carrierAt (place-high s (omega arith) b) ∙ carrier-low (s - 105) (omega arith) (omega arith) ∙ ap Holds (omega arith)
+    by (yes h) = ap carrierAt (carrier-of-low s a h) ∙ carrier-high (s + 150) (omega arith) (omega arith) ∙ ap Holds (omega arith)
+    by (no h) = ap carrierAt (carrier-of-high s (omega arith) b) ∙ carrier-low (s - 105) (omega arith) (omega arith) ∙ ap Holds (omega arith)
 
 found-test : T (all 256 (λ k. found k (carrierAt k)))
 unfolding carrierAt carrierOf

@@ -17,7 +17,7 @@ use Rattle.points.specs.Constellations.{levelI, levelQ}
 use Rattle.symbols.specs.Grid.{carrierAt, carrierOf}
 use Rattle.symbols.proofs.Placement.{carrier-place}
 use Rattle.symbols.specs.Grids.{levelOn, levelsFrom, spread, placed, received, indexOf, occupied, firstOccupied}
-use Rattle.symbols.proofs.Indices.{place-lt, index-lt, index-first, index-later, by-parts, getD-behind}
+use Rattle.symbols.proofs.Indices.{carrier-of-lt, index-lt, index-first, index-later, by-parts, getD-behind}
 use Rattle.symbols.proofs.Readings.{length-received, received-at, none-occupied}
 
 -- ---- one OFDM symbol
@@ -117,7 +117,7 @@ module _ (level : Point → ℤ) (none : level Nothing ≡ pos 0) where
   symbol-at ps place l =
       let levels = map level (take 210 ps) in
       ap (λ (k : ℕ). getD (spread levels) k (pos 0)) (index-first place l)
-      ∙ spread-at levels (carrierOf (suc place)) (place-lt (suc place))
+      ∙ spread-at levels (carrierOf (suc place)) (carrier-of-lt (suc place))
       ∙ ap (levelOn levels) (carrier-place (suc place) (omega arith) l)
       ∙ ap (getD levels place) (sym none)
       ∙ List·getD-map level (take 210 ps) place Nothing

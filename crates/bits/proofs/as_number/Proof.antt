@@ -1,4 +1,4 @@
--- `payload::bits::asNumber` meets its contract: x is the asNumber of the bits so far, modulo 2^32.
+-- `bits::as_number` meets its contract: x is the number of the bits so far, modulo 2^32.
 -- Assumes nothing.
 use mathlib.Core.Path.{_≡_, ap, _∙_}
 use mathlib.Core.List.{List}

@@ -1,4 +1,4 @@
--- `bch::word::first_bad` meets its contract: the elements before i are 0 or 1.
+-- `bits::first_bad` meets its contract: the elements before i are 0 or 1.
 -- Assumes nothing.
 use Prim.Native.Nat.{_-_, _≤_}
 use native.Mathlib.Omega.{arith}

@@ -1,4 +1,4 @@
--- `payload::bits::put_bits` meets its contract, by whether the lengths agree.
+-- `bits::put_bits` meets its contract, by whether the lengths agree.
 -- Assumes nothing.
 use Prim.Native.Nat.{_*_}
 use native.Mathlib.Omega.{arith}

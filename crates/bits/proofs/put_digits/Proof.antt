@@ -1,4 +1,4 @@
--- `payload::bits::put_digits` meets its contract: before what is written stand the digits of what is left of x.
+-- `bits::put_digits` meets its contract: before what is written stand the digits of what is left of x.
 -- Assumes nothing.
 use mathlib.Core.Path.{_≡_, refl, ap, _∙_}
 use mathlib.Core.List.{List, _∷_, _++_, append-nil, append-assoc}

@@ -1,4 +1,4 @@
--- `payload::bits::write_bits` meets its contract: what is written so far are the bits of the first i bytes.
+-- `bits::write_bits` meets its contract: what is written so far are the bits of the first i bytes.
 -- Assumes nothing.
 use mathlib.Core.Path.{_≡_, refl, sym, ap, _∙_}
 use mathlib.Core.List.{List}

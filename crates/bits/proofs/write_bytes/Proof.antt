@@ -1,4 +1,4 @@
--- `payload::bits::write_bytes` meets its contract: the first i bytes are those of the bits so far.
+-- `bits::write_bytes` meets its contract: the first i bytes are those of the bits so far.
 -- Assumes nothing.
 use mathlib.Core.Path.{_≡_, refl, sym, ap, ap₂, _∙_}
 use mathlib.Core.List.{List}

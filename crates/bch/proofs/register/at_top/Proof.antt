@@ -1,4 +1,4 @@
--- `bch::register::atTop` meets its contract: the register holds the bits from i on.
+-- `bch::register::at_top` meets its contract: the register holds the bits from i on.
 -- Assumes nothing.
 use mathlib.Core.Path.{_≡_, sym, ap₂, _∙_}
 use mathlib.Core.List.{List, _∷_, _++_}
@@ -9,7 +9,7 @@ use lib.Seq.{drop-cons, drop-length}
 use Rattle.bits.specs.Words.{lowest, digits}
 use Rattle.bch.specs.Registers.{contents, atTop}
 use Rattle.bits.proofs.Digits.{length-lowest, lowest-at}
-use Rattle.bch.proofs.Tops.{packed-before}
+use Rattle.bch.proofs.Tops.{at-top-before}
 use borrow.Author.Needs.{needs}
 use Rattle.bch.proofs.register.at_top.Statement.{statement}
 use Rattle.bch.proofs.register.at_top.Tie as tie
@@ -30,7 +30,7 @@ turn4 : (w : List ℕ) (i b x y : ℕ) → 4 ≤ i → b < 16 → drop (i - 4) w
     → y ≡ b * 2 ^ 188 + x / 16 → x ≡ atTop (drop i w) → y ≡ atTop (drop (i - 4) w)
 turn4 w i b x y pos hb d ey ex =
     let s : i - 4 + 4 ≡ i = omega arith in
-    rw (ey, ex, d, s) (sym (packed-before 4 b (drop i w) (omega arith) hb))
+    rw (ey, ex, d, s) (sym (at-top-before 4 b (drop i w) (omega arith) hb))
 
 -- the register x holds the word from i on
 abbrev Holds : List ℕ → ℕ → ℕ → Type 0

@@ -1,4 +1,4 @@
--- `bch::register::fours` meets its contract: each remainder by that of half the contents.
+-- `bch::register::fours` meets its contract: each remainder by that of half the number.
 -- Assumes nothing.
 use mathlib.Core.Path.{_≡_, refl, sym}
 use mathlib.Core.List.{List}

@@ -19,7 +19,7 @@ use Rattle.points.specs.Dqpsk.{phaseOf, phaseAt, dibitTo, dibitsFrom, strayAt}
 use Rattle.symbols.specs.Grid.{carrierOf}
 use Rattle.symbols.specs.Grids.{pointAt, pointsFrom}
 use Rattle.receiver_a.specs.Phases.{phaseLast, Reads}
-use Rattle.symbols.proofs.Indices.{place-lt}
+use Rattle.symbols.proofs.Indices.{carrier-of-lt}
 use Rattle.symbols.proofs.Readings.{length-points, points-at}
 use borrow.Author.Needs.{needs}
 use Rattle.receiver_a.proofs.phases.read_bits.Statement.{statement}
@@ -89,7 +89,7 @@ long c = length-points (c .args .i .now) (c .args .q .now) 1 210
 
 -- the sub-carrier is one of the OFDM symbol
 low : (c : tie.After-carrier-of Inv-loop μ-loop) → c .carrier-of .result < 256
-low c = rw (c .carrier-of .ensures) (place-lt (c .before .before .loop .s + 1))
+low c = rw (c .carrier-of .ensures) (carrier-of-lt (c .before .before .loop .s + 1))
 
 -- the label that is read is that of the next point
 seen : (c : tie.After-phase Inv-loop μ-loop)

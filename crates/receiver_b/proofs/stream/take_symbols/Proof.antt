@@ -5,7 +5,7 @@ use Prim.Native.Nat.{_+_, _-_, _*_, _≤_}
 use native.Mathlib.Omega.{arith}
 use borrow.Rule.Slice.PartMut.{mid-len}
 use Rattle.receiver_b.specs.Steps.{TakesIn}
-use Rattle.receiver_b.proofs.Receiving.{symbolBits, symbol-none, symbol-part}
+use Rattle.receiver_b.proofs.Receiving.{bitsOfSymbols, symbol-none, symbol-part}
 use Rattle.receiver_b.proofs.Taking.{goes-nowhere, goes-on}
 use borrow.Author.Needs.{needs}
 use Rattle.receiver_b.proofs.stream.take_symbols.Statement.{statement}
@@ -13,7 +13,7 @@ use Rattle.receiver_b.proofs.stream.take_symbols.Tie as tie
 
 abbrev Inv-loop : tie.InvT-loop
 Inv-loop cells quadrants scheme mode plan i q area₀ state₀ s₀ area state s =
-    (s ≤ plan .symbols) × TakesIn mode (plan .blocks) (symbolBits scheme i q s) area₀ (state₀ .block) (state₀ .tally) area (state .block) (state .tally)
+    (s ≤ plan .symbols) × TakesIn mode (plan .blocks) (bitsOfSymbols scheme i q s) area₀ (state₀ .block) (state₀ .tally) area (state .block) (state .tally)
 
 abbrev μ-loop : tie.MeasureT-loop
 μ-loop cells quadrants scheme mode plan i q area₀ state₀ s₀ area state s = plan .symbols - s

@@ -13,7 +13,7 @@ use Rattle.points.specs.declared.Label.{Label}
 use Rattle.points.specs.declared.Label.the-variants.{Stray}
 use Rattle.points.specs.Constellations.{isStray}
 use Rattle.symbols.specs.Grids.{pointAt, received}
-use Rattle.payload_b.specs.CodedB.{repeated, labelHeld}
+use Rattle.payload_b.specs.CodedB.{repeated, pointLabel}
 use Rattle.payload_b.specs.PromiseB.{strayIn}
 use Rattle.symbols.proofs.Indices.{index-lt}
 use Rattle.receiver_b.proofs.Labelled.{label-read, labels, labels-long, labels-at}
@@ -59,7 +59,7 @@ seen c =
     let label = label-read (s .pre .0) _ _ _ _ _ (toZ-ofZ w16 (getD i (k .result) (pos 0)) (record { sfits = c .before .before .before .label-in-arg .given }))
     (toZ-ofZ w16 (getD q (k .result) (pos 0)) (record { sfits = c .before .before .label-in-arg2 .given })) (c .before .label-in .ensures) in
     let at = labels-at (s .pre .0 .entries) (s .args .m) i q place (omega arith) in
-    c .is-stray .ensures ∙ ap isStray (label ∙ ap (λ (j : ℕ). labelHeld (getD (s .args .scheme .now) (place % 210) 0) (pointAt i q j)) (k .ensures) ∙ sym at)
+    c .is-stray .ensures ∙ ap isStray (label ∙ ap (λ (j : ℕ). pointLabel (getD (s .args .scheme .now) (place % 210) 0) (pointAt i q j)) (k .ensures) ∙ sym at)
 
 returns : tie.Need-returns Inv-loop μ-loop
 returns c =

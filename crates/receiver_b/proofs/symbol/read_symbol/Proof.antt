@@ -18,9 +18,9 @@ use Rattle.points.specs.declared.Point.the-variants.{Nothing}
 use Rattle.points.specs.Constellations.{labelNumber}
 use Rattle.symbols.specs.Grid.{carrierOf}
 use Rattle.symbols.specs.Grids.{pointAt, pointsFrom}
-use Rattle.payload_b.specs.CodedB.{sumOf, labelHeld, labelled}
+use Rattle.payload_b.specs.CodedB.{sumOf, pointLabel, labelled}
 use Rattle.bits.proofs.Copies.{part-long, part-written}
-use Rattle.symbols.proofs.Indices.{place-lt}
+use Rattle.symbols.proofs.Indices.{carrier-of-lt}
 use Rattle.symbols.proofs.Readings.{length-points, points-at}
 use Rattle.payload_b.proofs.Schemes.{sum-most, sum-nil, sum-snoc, entry-end}
 use Rattle.receiver_b.proofs.Labelled.{labelled-snoc, label-read}
@@ -44,7 +44,7 @@ placed c = c .before .before .before .before .before
 
 -- the sub-carrier is one of the OFDM symbol
 low : (c : tie.After-carrier-of Inv-loop μ-loop) → c .carrier-of .result < 256
-low c = rw (c .carrier-of .ensures) (place-lt (c .before .before .loop .s + 1))
+low c = rw (c .carrier-of .ensures) (carrier-of-lt (c .before .before .loop .s + 1))
 
 -- the bits of the point have room
 enough : (c : tie.After-carrier-of Inv-loop μ-loop)
@@ -63,7 +63,7 @@ points s = pointsFrom (s .args .i .now) (s .args .q .now) 1 210
 seen : (c : tie.After-label-number Inv-loop μ-loop)
     → let s = first (placed c) in
     let at = placed c .before .before .loop .s in
-    c .label-number .result ≡ labelNumber (labelHeld (getD (s .args .scheme .now) at 0) (getD (points s) at Nothing))
+    c .label-number .result ≡ labelNumber (pointLabel (getD (s .args .scheme .now) at 0) (getD (points s) at Nothing))
 seen c =
     let s = first (placed c) in
     let k = placed c .carrier-of in
@@ -75,7 +75,7 @@ seen c =
     = points-at i q 1 210 at (omega arith) ∙ ap (pointAt i q) (ap carrierOf one ∙ sym (k .ensures)) in
     let label = label-read (s .pre .0) _ _ _ _ _ (toZ-ofZ w16 (getD i (k .result) (pos 0)) (record { sfits = c .before .before .before .label-in-arg .given }))
     (toZ-ofZ w16 (getD q (k .result) (pos 0)) (record { sfits = c .before .before .label-in-arg2 .given })) (c .before .label-in .ensures) in
-    c .label-number .ensures ∙ ap labelNumber (label ∙ sym (ap (labelHeld _) point))
+    c .label-number .ensures ∙ ap labelNumber (label ∙ sym (ap (pointLabel _) point))
 
 loop-holds : tie.Need-loop-holds Inv-loop μ-loop
 unfolding labelled

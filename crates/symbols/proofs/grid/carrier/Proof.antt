@@ -1,4 +1,4 @@
--- `points::grid::carrier` meets its contract: each arm is a part of the grid.
+-- `symbols::grid::carrier` meets its contract: each arm is a part of the grid.
 -- Assumes nothing.
 use mathlib.Core.Path.{ap, sym, _∙_}
 use native.Mathlib.Omega.{arith}

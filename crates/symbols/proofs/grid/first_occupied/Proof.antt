@@ -1,4 +1,4 @@
--- `payload::grid::first_occupied` meets its contract: none of the sub-carriers before k is occupied.
+-- `symbols::grid::first_occupied` meets its contract: none of the sub-carriers before k is occupied.
 -- Assumes nothing.
 use mathlib.Core.Path.{_≡_, sym, ap, _∙_}
 use Prim.Native.Nat.{_-_, _≤_}

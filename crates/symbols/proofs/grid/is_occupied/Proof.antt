@@ -1,4 +1,4 @@
--- `payload::grid::is_occupied` meets its contract, by what the sub-carrier holds and whether both levels are 0.
+-- `symbols::grid::is_occupied` meets its contract, by what the sub-carrier holds and whether both levels are 0.
 -- Assumes nothing.
 use mathlib.Core.Path.{_≡_, sym, _∙_}
 use Prim.Native.Nat.{_%_}

@@ -1,4 +1,4 @@
--- `payload::grid::is_zero` meets its contract: only 0 has the bits of 0.
+-- `symbols::grid::is_zero` meets its contract: only 0 has the bits of 0.
 -- Assumes nothing.
 use mathlib.Core.Path.{_≡_, refl}
 use Prim.Native.Nat.{suc, _-_}

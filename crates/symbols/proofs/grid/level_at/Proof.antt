@@ -1,4 +1,4 @@
--- `payload::grid::level_at` meets its contract: a list has 0 beyond its end.
+-- `symbols::grid::level_at` meets its contract: a list has 0 beyond its end.
 -- Assumes nothing.
 use mathlib.Core.Path.{sym}
 use native.Mathlib.Omega.{arith}

@@ -1,4 +1,4 @@
--- `payload::grid::level_on` meets its contract: s is numbered from 1 to 210.
+-- `symbols::grid::level_on` meets its contract: s is numbered from 1 to 210.
 -- Assumes nothing.
 use mathlib.Core.Path.{_≡_, sym, ap, _∙_}
 use mathlib.Core.List.{List, _∷_}

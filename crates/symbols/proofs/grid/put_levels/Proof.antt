@@ -1,4 +1,4 @@
--- `payload::grid::put_levels` meets its contract: what is written so far, then the levels of the other sub-carriers.
+-- `symbols::grid::put_levels` meets its contract: what is written so far, then the levels of the other sub-carriers.
 -- Assumes nothing.
 use mathlib.Core.Path.{_≡_, refl, sym, ap, _∙_}
 use mathlib.Core.List.{List, _++_, append-nil, append-assoc}
