@@ -56,11 +56,12 @@ value-square x (suc (suc b) ∷ bs) h = let l = h .0 in absurd (omega arith)
 
 -- ---- values by computation
 
-hornerFrom : ℕ → ℕ → List ℕ → ℕ
+-- Horner's rule on numbers
+unfoldable pub hornerFrom : ℕ → ℕ → List ℕ → ℕ
 hornerFrom v x [] = v
 hornerFrom v x (b ∷ bs) = hornerFrom (sum (product v x) b) x bs
 
-of-horner : (v x : ℕ) (bs : List ℕ) → element-of (hornerFrom v x bs) ≡ valueFrom (element-of v) (element-of x) bs
+pub of-horner : (v x : ℕ) (bs : List ℕ) → element-of (hornerFrom v x bs) ≡ valueFrom (element-of v) (element-of x) bs
 unfolding hornerFrom valueFrom
 of-horner v x [] = refl
 of-horner v x (b ∷ bs) = of-horner (sum (product v x) b) x bs ∙ rw (of-sum, of-product)

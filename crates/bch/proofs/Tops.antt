@@ -4,10 +4,11 @@ use mathlib.Core.Path.{_≡_, refl, sym, ap, ap₂, _∙_}
 use mathlib.Core.List.{List, [], _∷_, _++_, append-nil}
 use Prim.Native.Nat.{ℕ, zero, suc, _+_, _-_, _*_, _/_, _%_, _^_, _≤_, _<_}
 use native.Mathlib.Omega.{arith}
-use native.Mathlib.Nat.{le-refl, mod-eq-of-lt, mul-assoc, add-zero, zero-mul, zero-mod, zero-div, mod-one, mul-add-mod-self-right}
+use native.Mathlib.Nat.{le-refl, mod-lt, mod-eq-of-lt, div-add-mod', pow-suc, suc-add, mul-assoc, add-zero, zero-mul, zero-mod, zero-div, mod-one, mul-add-mod-self-right}
 use native.Mathlib.Numerals.{add-one, one-add}
 use lib.Arith.{digits-lt, digits-mod}
 use lib.Bits.{bitXor, block-half, xor-shr, xor-mod}
+use lib.Dec.{lit<}
 use lib.ListN.{length}
 use lib.Pow.{pow-pos, pow-add, shl-shr, shr-shr, shr-lt, high, field, mod-pow-add, mod-mod-pow}
 use Rattle.ground.proofs.Xors.{xor-double}
@@ -15,6 +16,11 @@ use Rattle.bits.specs.Words.{Bits, digits}
 use Rattle.bch.specs.Registers.{tops, atTop}
 use Rattle.field.proofs.Values.{plus}
 use Rattle.bits.proofs.Remainders.{halved}
+
+pub mod-times : (n q p : ℕ) → n % p * q % p ≡ n * q % p
+mod-times n q p =
+    let e : n / p * q * p + n % p * q ≡ n * q = omega (arith, ap (λ (k : ℕ). k * q) (div-add-mod' n p)) in
+    sym (mul-add-mod-self-right (n / p * q) p (n % p * q)) ∙ ap (λ (k : ℕ). k % p) e
 
 digit-mod : (m e x : ℕ) → m < e → x % 2 ^ e / 2 ^ m % 2 ≡ x / 2 ^ m % 2
 digit-mod m e x h =
@@ -28,10 +34,21 @@ digits-mod-pow (suc m) e x h = ap₂ _∷_ (digit-mod m e x h) (digits-mod-pow m
 
 -- ---- the top of a register
 
-pub tops-length : (m x : ℕ) → length (tops m x) ≡ m
+pub tops-bits : (m x : ℕ) → Bits (tops m x)
 unfolding tops
-tops-length zero x = refl
-tops-length (suc m) x = ap suc (tops-length m (x * 2 % 2 ^ 192))
+tops-bits zero x = tt
+tops-bits (suc m) x = (mod-lt _ (lit< tt), tops-bits m _)
+
+-- some, and those that stand at the top once they have fallen out
+pub tops-more : (m d y : ℕ) → tops (suc m + d) y ≡ tops (suc m) y ++ tops d (y * 2 ^ suc m % 2 ^ 192)
+unfolding tops
+tops-more zero d y = ap (λ (n : ℕ). tops n y) (one-add d)
+tops-more (suc m) d y =
+    let z = y * 2 % 2 ^ 192 in
+    let e : z * 2 ^ suc m % 2 ^ 192 ≡ y * 2 ^ suc (suc m) % 2 ^ 192
+    = mod-times (y * 2) (2 ^ suc m) (2 ^ 192) ∙ ap (λ (n : ℕ). n % 2 ^ 192) (rw (pow-suc 2 (suc m)) (omega arith)) in
+    ap (λ (n : ℕ). tops n y) (suc-add (suc m) d)
+    ∙ ap (λ (v : List ℕ). y / 2 ^ 191 % 2 ∷ v) (tops-more m d z ∙ ap (λ (n : ℕ). tops (suc m) z ++ tops d n) e)
 
 pub tops-shifted : (m k x : ℕ) → m + k ≡ 192 → tops m x ≡ digits m (x / 2 ^ k)
 unfolding tops digits

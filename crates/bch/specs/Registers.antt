@@ -2,9 +2,10 @@
 -- The promise of encode and decode rests on nothing here: it is what the jobs and what they stand on promise one another.
 -- Assumes nothing.
 use mathlib.Core.Path.{_≡_}
-use mathlib.Core.List.{List, [], _∷_}
+use mathlib.Core.List.{List, [], _∷_, _++_}
 use Prim.Native.Nat.{ℕ, zero, suc, _+_, _*_, _/_, _%_, _^_, _<_}
-use lib.ListN.{getD}
+use lib.Bits.{bitXor}
+use lib.ListN.{getD, replicate}
 use Rattle.bits.specs.Words.{digits}
 use Rattle.bits.specs.Remainders.{remainder}
 use Rattle.bch.specs.declared.register.Register.{Register}
@@ -27,6 +28,10 @@ atTop (b ∷ bs) = b * 2 ^ 191 + atTop bs / 2
 abbrev pub whole : Register → ℕ
 whole g = 2 ^ 192 + contents g
 
--- a table that holds at each i below n the remainder of the four digits of i by the generator g
-abbrev pub Fours : ℕ → ℕ → List Register → Type 0
-Fours g n table = (i : ℕ) (d : Register) → i < n → contents (getD table i d) ≡ remainder 192 g (digits 4 i)
+-- the sum of those of four numbers whose digit in i is 1, that of a the lowest
+unfoldable pub chosen : ℕ → ℕ → ℕ → ℕ → ℕ → ℕ
+chosen i a b c d = bitXor (i / 8 % 2 * d) (bitXor (i / 4 % 2 * c) (bitXor (i / 2 % 2 * b) (i % 2 * a)))
+
+-- half of a table: at each i below 16 the remainder by g of the four digits of i with k zeros behind
+abbrev pub Sixteens : ℕ → ℕ → List Register → Type 0
+Sixteens g k table = (i : ℕ) (z : Register) → i < 16 → contents (getD table i z) ≡ remainder 192 g (digits 4 i ++ replicate k 0)

@@ -1,14 +1,15 @@
 // A register of 192 binary digits in three machine words, the highest first. A remainder of r digits stands at its top, with zeros below,
-// so that one step serves all three codes. Words are taken in four bits at a time, by a table of sixteen remainders.
+// so that one step serves all three codes. A word is taken in eight bits at a time, by a table of remainders in two halves, one for
+// the upper four of eight digits and one for the lower four.
 ghost use mathlib.Core.Path.{_≡_};
-ghost use mathlib.Core.List.{_++_};
+ghost use mathlib.Core.List.{_∷_, _++_};
 ghost use Prim.Native.Nat.{ℕ, _+_, _*_, _/_, _%_, _^_, _<_};
 ghost use lib.Bits.{bitXor};
 ghost use lib.Dec.{eqb};
-ghost use lib.ListN.{length, drop};
+ghost use lib.ListN.{length, getD, drop, replicate};
 ghost use Rattle.bits.specs.Words.{lowest, digits};
 ghost use Rattle.bits.specs.Remainders.{step, remainder, remainderFrom};
-ghost use Rattle.bch.specs.Registers.{contents, whole, atTop, tops, Fours};
+ghost use Rattle.bch.specs.Registers.{contents, whole, atTop, tops, chosen, Sixteens};
 
 pub struct Register {
     pub high: u64,
@@ -24,14 +25,14 @@ const ZERO: Register = Register {
 };
 
 // The highest digit.
-pub fn top(r: Register) -> u64
+fn top(r: Register) -> u64
     ensures { λ t. ⌜ (t ≡ contents r / 2 ^ 191) × (t < 2) ⌝ }
 {
     r.high / 0x8000_0000_0000_0000
 }
 
 // One place up; the highest digit falls out.
-pub fn up(r: Register) -> Register
+fn up(r: Register) -> Register
     ensures { λ q. ⌜ contents q ≡ contents r * 2 % 2 ^ 192 ⌝ }
 {
     Register {
@@ -88,39 +89,33 @@ fn step(r: Register, g: Register, b: u8) -> Register
     }
 }
 
-// The remainders of the sixteen words of four bits.
-fn fours(g: Register) -> [Register; 16]
-    ensures { λ t. ⌜ Fours (whole g) 16 t ⌝ }
+// The eight highest digits.
+pub fn top8(r: Register) -> u64
+    ensures { λ t. ⌜ (t ≡ contents r / 2 ^ 184) × (t < 256) ⌝ }
 {
-    let mut table = [ZERO; 16];
-    let mut i: usize = 1;
-    while i < 16 {
-        table[i] = step(table[i / 2], g, (i % 2) as u8);
-        i += 1;
-    }
-    table
+    r.high / 0x0100_0000_0000_0000
 }
 
-// Four places up; the highest four digits fall out.
-fn up4(r: Register) -> Register
-    ensures { λ q. ⌜ contents q ≡ contents r * 16 % 2 ^ 192 ⌝ }
+// Eight places up; the highest eight digits fall out.
+pub fn up8(r: Register) -> Register
+    ensures { λ q. ⌜ contents q ≡ contents r * 256 % 2 ^ 192 ⌝ }
 {
     Register {
-        high: r.high % 0x1000_0000_0000_0000 * 16 + r.mid / 0x1000_0000_0000_0000,
-        mid: r.mid % 0x1000_0000_0000_0000 * 16 + r.low / 0x1000_0000_0000_0000,
-        low: r.low % 0x1000_0000_0000_0000 * 16,
+        high: r.high % 0x0100_0000_0000_0000 * 256 + r.mid / 0x0100_0000_0000_0000,
+        mid: r.mid % 0x0100_0000_0000_0000 * 256 + r.low / 0x0100_0000_0000_0000,
+        low: r.low % 0x0100_0000_0000_0000 * 256,
     }
 }
 
-// Four places down, with the four digits of b as the highest; the lowest four fall out.
-fn down4(r: Register, b: u64) -> Register
-    requires { ⌜ b < 16 ⌝ }
-    ensures { λ q. ⌜ contents q ≡ b * 2 ^ 188 + contents r / 16 ⌝ }
+// Eight places down, with the eight digits of b as the highest; the lowest eight fall out.
+fn down8(r: Register, b: u64) -> Register
+    requires { ⌜ b < 256 ⌝ }
+    ensures { λ q. ⌜ contents q ≡ b * 2 ^ 184 + contents r / 256 ⌝ }
 {
     Register {
-        high: b * 0x1000_0000_0000_0000 + r.high / 16,
-        mid: r.high % 16 * 0x1000_0000_0000_0000 + r.mid / 16,
-        low: r.mid % 16 * 0x1000_0000_0000_0000 + r.low / 16,
+        high: b * 0x0100_0000_0000_0000 + r.high / 256,
+        mid: r.high % 256 * 0x0100_0000_0000_0000 + r.mid / 256,
+        low: r.mid % 256 * 0x0100_0000_0000_0000 + r.low / 256,
     }
 }
 
@@ -139,31 +134,79 @@ fn four(word: &[u8], i: usize) -> u64
     wide(word[i]) * 8 + wide(word[i + 1]) * 4 + wide(word[i + 2]) * 2 + wide(word[i + 3])
 }
 
-// The four digits that fall out of the register with those of b added: the place of their remainder in the table.
-fn slot(r: Register, b: u64) -> usize
-    requires { ⌜ b < 16 ⌝ }
-    ensures { λ i. ⌜ (i ≡ bitXor (contents r / 2 ^ 188) b) × (i < 16) ⌝ }
+// The number that the eight bits from i on are the digits of.
+fn eight(word: &[u8], i: usize) -> u64
+    requires { ⌜ i + 7 < length (now word) ⌝ }
+    ensures { λ b. ⌜ (b < 256) × (drop i (lowest (now (word .entry))) ≡ digits 8 b ++ drop (i + 8) (lowest (now (word .entry)))) ⌝ }
 {
-    ((r.high / 0x1000_0000_0000_0000) ^ b) as usize
+    four(word, i) * 16 + four(word, i + 4)
 }
 
-// The register takes in four bits; e is the remainder of what falls out with those bits added.
-fn step4(r: Register, e: Register) -> Register
-    ensures { λ q. ⌜ ((g b : ℕ) → contents e ≡ remainder 192 g (digits 4 (bitXor (contents r / 2 ^ 188) b)) → contents q ≡ remainderFrom 192 g (contents r) (digits 4 b)) ⌝ }
+// At each i the sum of those of a, b, c, d whose digit in i is 1, that of a the lowest.
+fn chosen(a: Register, b: Register, c: Register, d: Register) -> [Register; 16]
+    ensures { λ t. ⌜ ((i : ℕ) (z : Register) → i < 16 → contents (getD t i z) ≡ chosen i (contents a) (contents b) (contents c) (contents d)) ⌝ }
 {
-    xor(up4(r), e)
+    let ab = xor(a, b);
+    let cd = xor(c, d);
+    [
+        ZERO,
+        a,
+        b,
+        ab,
+        c,
+        xor(c, a),
+        xor(c, b),
+        xor(c, ab),
+        d,
+        xor(d, a),
+        xor(d, b),
+        xor(d, ab),
+        cd,
+        xor(cd, a),
+        xor(cd, b),
+        xor(cd, ab),
+    ]
+}
+
+// Half of the table: the remainders of the sixteen words of four bits with k zeros behind, where x is that of a 1 with k zeros behind.
+fn sixteen(g: Register, x: Register) -> [Register; 16]
+    ensures { λ t. ⌜ ((k : ℕ) → contents x ≡ remainder 192 (whole g) (1 ∷ replicate k 0) → Sixteens (whole g) k t) ⌝ }
+{
+    let b = step(x, g, 0);
+    let c = step(b, g, 0);
+    let d = step(c, g, 0);
+    chosen(x, b, c, d)
+}
+
+// The eight digits that fall out of the register, with those of b added: the upper four are a place in one half of the table, the lower four in the
+// other.
+fn slot(r: Register, b: u64) -> usize
+    requires { ⌜ b < 256 ⌝ }
+    ensures { λ i. ⌜ (i ≡ bitXor (contents r / 2 ^ 184) b) × (i < 256) ⌝ }
+{
+    (top8(r) ^ b) as usize
+}
+
+// The register takes in eight bits; high and low together are the remainder of what falls out with those bits added.
+fn step8(r: Register, high: Register, low: Register) -> Register
+    ensures { λ q. ⌜ ((g b i : ℕ) → i ≡ bitXor (contents r / 2 ^ 184) b → contents high ≡ remainder 192 g (digits 4 (i / 16) ++ replicate 4 0) → contents low ≡ remainder 192 g (digits 4 (i % 16) ++ replicate 0 0) → contents q ≡ remainderFrom 192 g (contents r) (digits 8 b)) ⌝ }
+{
+    xor(up8(r), xor(high, low))
 }
 
 // The remainder of word by the generator g; an element counts as its lowest binary digit.
 pub fn remainder(g: Register, word: &[u8]) -> Register
     ensures { λ q. ⌜ contents q ≡ remainder 192 (whole g) (lowest (now (word .entry))) ⌝ }
 {
-    let table = fours(g);
+    // The remainder of a 1 is the generator without its highest digit; that of a 1 with three zeros behind stands at 8.
+    let lows = sixteen(g, g);
+    let highs = sixteen(g, step(lows[8], g, 0));
     let mut r = ZERO;
     let mut i: usize = 0;
-    while i + 3 < word.len() {
-        r = step4(r, table[slot(r, four(word, i))]);
-        i += 4;
+    while i + 7 < word.len() {
+        let at = slot(r, eight(word, i));
+        r = step8(r, highs[at / 16], lows[at % 16]);
+        i += 8;
     }
     while i < word.len() {
         r = step(r, g, word[i] % 2);
@@ -178,9 +221,9 @@ pub fn at_top(word: &[u8]) -> Register
 {
     let mut r = ZERO;
     let mut i: usize = word.len();
-    while 4 <= i {
-        i -= 4;
-        r = down4(r, four(word, i));
+    while 8 <= i {
+        i -= 8;
+        r = down8(r, eight(word, i));
     }
     while 0 < i {
         i -= 1;

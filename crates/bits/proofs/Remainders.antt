@@ -73,7 +73,7 @@ from-append r g x [] w = refl
 from-append r g x (b ∷ v) w = from-append r g (step r g x b) v w
 
 -- the zero register takes in a 0
-pub step-0 : (r g : ℕ) → step r g 0 0 ≡ 0
+step-0 : (r g : ℕ) → step r g 0 0 ≡ 0
 step-0 r g = step-same r 0 0 g (zero-div (2 ^ r)) ∙ zero-mod (2 ^ r)
 
 -- leading zeros leave the remainder as it is, so the shortened code is the 511-bit code with leading zeros dropped (clause 6.3.5)

@@ -1,15 +1,18 @@
 // Words, one bit to an element: their digits, the number that they are the digits of, and the bits of a frame's bytes, most significant first.
 // It knows no code, no point and no payload; what stands above has its words from here. Every function answers whatever comes in.
 ghost use mathlib.Core.Path.{_≡_};
-ghost use Prim.Native.Nat.{_*_, _%_, _^_};
+ghost use Prim.Native.Nat.{_*_, _%_, _^_, _<_};
 ghost use lib.ListN.{length};
-ghost use Rattle.bits.specs.Words.{digits, firstBad};
+ghost use Rattle.bits.specs.Words.{Bits, digits, firstBad};
 ghost use Rattle.bits.specs.Bytes.{bitsOf, asNumber, bytesOf, bitsPut, bytesPut};
 
 // The index of the first element that is neither 0 nor 1; the length where there is none.
 pub fn first_bad(word: &[u8]) -> usize
     ensures { λ i. ⌜ i ≡ firstBad (now (word .entry)) ⌝ }
 {
+    if any(word) < 2 {
+        return word.len();
+    }
     let mut i: usize = 0;
     while i < word.len() {
         if 1 < word[i] {
@@ -18,6 +21,19 @@ pub fn first_bad(word: &[u8]) -> usize
         i += 1;
     }
     i
+}
+
+// Every binary digit that some element has: where that is below 2, all are bits. It takes no branch, so that many elements go at once.
+fn any(word: &[u8]) -> u8
+    ensures { λ u. ⌜ (u < 2 → Bits (now (word .entry))) ⌝ }
+{
+    let mut all: u8 = 0;
+    let mut i: usize = 0;
+    while i < word.len() {
+        all = all | word[i];
+        i += 1;
+    }
+    all
 }
 
 // The low binary digits of x, as many as out has places.

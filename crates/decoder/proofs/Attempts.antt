@@ -1,27 +1,29 @@
--- What the locator of a word's syndromes says of the codewords within t.
+-- What the locator of a word's syndromes says of the codewords within t, and what a word with one place flipped is.
 -- Assumes nothing.
-use mathlib.Core.Path.{_≡_, sym, ap, _∙_}
+use mathlib.Core.Path.{_≡_, refl, sym, ap, _∙_}
 use mathlib.Core.Logic.{inl, inr}
-use mathlib.Core.List.{List, _++_}
-use Prim.Native.Nat.{ℕ, suc, _-_, _*_, _≤_, _<_}
+use mathlib.Core.List.{List, [], _∷_, _++_}
+use Prim.Native.Nat.{ℕ, zero, suc, _-_, _*_, _≤_, _<_}
 use native.Mathlib.Omega.{arith}
-use lib.ListN.{length, drop}
+use lib.ListN.{length, take, drop, getD, set, length-set}
 use Rattle.algebra.proofs.Berlekamp.{Found}
 use Rattle.field.proofs.Elements.{GF512}
 use Rattle.field.proofs.Values.{series}
-use Rattle.bits.specs.Words.{Bits}
+use Rattle.bits.specs.Words.{Bits, differ}
 use Rattle.bch.specs.Codes.{Code, Codeword, Within}
 use Rattle.bch.specs.Registers.{tops}
-use Rattle.decoder.specs.Locators.{Syndromes, Turned}
+use Rattle.decoder.specs.Locators.{Turned}
+use Rattle.decoder.specs.Syndromes.{Syndromes}
 use Rattle.bch.specs.Held.{Sound, codeOf}
-use Rattle.decoder.specs.Candidates.{leftover, Candidate, Settles}
+use Rattle.decoder.specs.Candidates.{leftover, Candidate, Single, Settles}
 use Rattle.answers.specs.Answers.{accepted, because}
 use Rattle.answers.specs.Checks.{passes}
 use Rattle.bch.specs.Promise.{Decodes, Mended}
 use Rattle.answers.specs.declared.Decoded.{Decoded}
 use Rattle.answers.specs.declared.Decoded.the-variants.{Accepted, Refused}
 use Rattle.bch.specs.declared.code.Held.{Held}
-use Rattle.bits.proofs.Distances.{differ-self}
+use Rattle.bits.proofs.Copies.{bits-set, copied-all}
+use Rattle.bits.proofs.Distances.{differ-cons, apart-same, apart-other, differ-self}
 use Rattle.decoder.proofs.Leftovers.{value-left}
 use Rattle.decoder.proofs.Completeness.{turned-bits, few, exact, complete}
 
@@ -71,3 +73,37 @@ clean {c} {word} codeword e = record {
   tells = ap (λ (n : ℕ). accepted n 0) (sym (differ-self word));
   left = e;
 }
+
+-- ---- one place flipped
+
+-- a word of bits as long as w, that differs from it in one place
+pub record Neighbour (w copy : List ℕ) : Type 0 where
+  pub bits : Bits copy
+  pub long : length copy ≡ length w
+  pub apart : differ copy w ≡ 1
+
+differ-flipped : (w : List ℕ) → Bits w → (p : ℕ) → p < length w → differ (set w p (1 - getD w p 0)) w ≡ 1
+differ-flipped [] bits p low = absurd (omega arith)
+differ-flipped (b ∷ bs) bits zero low = rw (differ-cons, apart-other (1 - b) b (λ e. omega (arith, bits .0)), differ-self bs)
+differ-flipped (b ∷ bs) bits (suc p) low = rw (differ-cons, apart-same b b refl, differ-flipped bs (bits .1) p (omega arith))
+
+-- the word was copied into a list as long, and one place flipped there
+pub neighbour : (w old : List ℕ) (n p : ℕ) → Bits w → length w ≡ n → length old ≡ n → p < n
+    → {copy : List ℕ} → copy ≡ take (length w) w ++ drop (length w) old → Neighbour w (set copy p (1 - getD w p 0))
+neighbour w old n p bits long room low e =
+    rw (e ∙ copied-all w old (room ∙ sym long)) (record {
+      bits = bits-set w p (1 - getD w p 0) bits (omega arith);
+      long = length-set w p (1 - getD w p 0);
+      apart = differ-flipped w bits p (omega arith);
+    })
+
+-- a neighbour that is a codeword is the answer
+pub settled-neighbour : {w copy : List ℕ} → Neighbour w copy → (c : Code) (out : List ℕ) (answer : Decoded) (after : List ℕ) → 1 ≤ c .t
+    → Settles c copy out 1 answer after → Single c w out answer after
+settled-neighbour {w} {copy} near c out (Accepted k) after mends s = record {
+  codeword = copy;
+  within = record { codeword = s .1; near = omega (arith, near .apart) };
+  tells = ap (λ (n : ℕ). accepted n 0) (s .0 ∙ sym (near .apart));
+  left = s .2;
+}
+settled-neighbour near c out (Refused r) after mends s = s .2

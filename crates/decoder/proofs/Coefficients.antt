@@ -1,17 +1,18 @@
 -- A coefficient of a product of two series, summed term by term from numbers.
 -- Assumes nothing.
-use mathlib.Core.Path.{_≡_, sym, ap₂, _∙_}
+use mathlib.Core.Path.{_≡_, sym, ap, ap₂, _∙_}
 use mathlib.Core.List.{List}
-use Prim.Native.Nat.{ℕ, suc, _-_, _<_}
+use Prim.Native.Nat.{ℕ, zero, suc, _+_, _-_, _<_}
 use native.Mathlib.Omega.{arith}
 use lib.Bits.{bitXor, xor-lt}
 use lib.ListN.{getD}
+use Rattle.algebra.proofs.Fields.{add-zero, zero-mul}
 use Rattle.algebra.proofs.Sums.{sum, sum-nil, sum-suc}
 use Rattle.algebra.proofs.Series.{conv, conv-sum}
 use Rattle.field.specs.Tables.{productFrom}
 use Rattle.field.proofs.Elements.{GF512, element-of, of-0, of-xor}
 use Rattle.field.proofs.Values.{series}
-use Rattle.decoder.specs.Locators.{Lent}
+use Rattle.decoder.specs.Locators.{Lent, Ends}
 use Rattle.decoder.proofs.Lents.{lent-product, lent-small}
 
 module _ (f g : List ℕ) (r : ℕ) where
@@ -35,5 +36,12 @@ module _ {f g : List ℕ} {r : ℕ} where
     small = xor-lt 9 _ _ (h .small) (lent-small lent _ _);
   }
 
-  pub summed-all : {d : ℕ} → Summed f g r (suc r) d → element-of d ≡ conv GF512 (series f) (series g) r
-  summed-all h = h .sums ∙ sym (conv-sum GF512 (series f) (series g) r)
+  -- behind the last entry of f the terms are zero, so that the k that are missing add nothing
+  pub summed-all : {last n d : ℕ} (k : ℕ) → Ends f last → last < n → n + k ≡ suc r → Summed f g r n d
+      → element-of d ≡ conv GF512 (series f) (series g) r
+  summed-all {n = n} zero ends l e h =
+      let all : n ≡ suc r = omega arith in (rw all at (h .sums)) ∙ sym (conv-sum GF512 (series f) (series g) r)
+  summed-all {n = n} (suc k) ends l e h =
+      let none : term f g r n ≡ GF512 .zero = ap (λ (u : GF512 .Element). GF512 .mul u (series g (r - n))) (ends n l) ∙ zero-mul GF512 _ in
+      summed-all {n = suc n} k ends (omega arith) (omega arith)
+      (record { sums = h .sums ∙ sym (sum-suc GF512 n _ ∙ ap (GF512 .add _) none ∙ add-zero GF512 _); small = h .small })

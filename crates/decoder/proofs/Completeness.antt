@@ -17,7 +17,8 @@ use Rattle.field.proofs.Elements.{GF512}
 use Rattle.field.proofs.Values.{a, series, a-nonzero, a-differ, a-inverse}
 use Rattle.bits.specs.Words.{Bits, differ}
 use Rattle.bch.specs.Codes.{Code, Within}
-use Rattle.decoder.specs.Locators.{Syndromes, valueAt, Turned}
+use Rattle.decoder.specs.Locators.{valueAt, Turned}
+use Rattle.decoder.specs.Syndromes.{Syndromes}
 use Rattle.bch.specs.Held.{Rooted}
 use Rattle.bits.proofs.Digits.{bits-at, bits-from}
 use Rattle.bch.proofs.Errors.{Pair, error, weight-error, synd-error, same-of-error, error-of-same}

@@ -1,6 +1,5 @@
 pub mod Lents
 pub mod Summands
-pub mod Syndromic
 pub mod Leftovers
 pub mod Flips
 pub mod Completeness
@@ -9,3 +8,6 @@ pub mod Mixes
 pub mod Coefficients
 pub mod Recurrences
 pub mod Attempts
+pub mod DigitTables
+pub mod Horners
+pub mod Squares

@@ -12,7 +12,7 @@ use Rattle.algebra.proofs.Series.{conv, shift, mix}
 use Rattle.algebra.proofs.Berlekamp.{found-start, found-ext, step-none, step-keep, step-grow}
 use Rattle.field.proofs.Elements.{GF512, element-of, of-0, of-1, of-zero}
 use Rattle.field.proofs.Values.{series}
-use Rattle.decoder.specs.Locators.{After, Small}
+use Rattle.decoder.specs.Locators.{After, Small, Ends}
 use Rattle.decoder.specs.declared.locator.State.{State}
 use Rattle.decoder.proofs.Shifts.{series-moved, series-1, series-x, small-1}
 
@@ -25,6 +25,10 @@ after-start s = record {
   found = rw of-1 (found-ext GF512 (found-start GF512 (series s)) (series-1 33) (series-x 32));
   small = small-1 33;
 }
+
+-- both polynomials end at each m that the next length may be
+pub ends-next : {s : List ℕ} {r : ℕ} {q : State} → After s r q → (m : ℕ) → q .len ≤ m → r < m + q .len → Ends (q .locator) m × Ends (q .other) m
+ends-next after m h k = (λ i l. after .found .current .degree i (omega arith), λ i l. after .found .saved .degree i (omega arith))
 
 module _ {s : List ℕ} {r : ℕ} {q : State} (after : After s r q) (room : r < 32) where
   moved-locator : (i : ℕ) → shift GF512 (series (q .locator)) i ≡ series (0 ∷ take 33 (q .locator)) i

@@ -24,7 +24,7 @@ moved-more p out (suc i) z h k e =
 -- ---- as series
 
 -- past the end there is nothing
-pub series-past : (l : List ℕ) (i : ℕ) → length l ≤ i → series l i ≡ GF512 .zero
+series-past : (l : List ℕ) (i : ℕ) → length l ≤ i → series l i ≡ GF512 .zero
 unfolding series
 series-past l i h = ap element-of (List·getD-eq-default l 0 h) ∙ of-0
 
@@ -46,7 +46,7 @@ module _ (n : ℕ) (l : List ℕ) (lost : (i : ℕ) → n ≤ i → series l i �
 
 -- ---- 1 and x
 
-zeros-at : (n i : ℕ) → _≡_ {A = ℕ} (getD (replicate n 0) i 0) 0
+pub zeros-at : (n i : ℕ) → _≡_ {A = ℕ} (getD (replicate n 0) i 0) 0
 zeros-at zero i = refl
 zeros-at (suc n) zero = refl
 zeros-at (suc n) (suc i) = zeros-at n i

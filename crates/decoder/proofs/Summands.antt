@@ -88,10 +88,10 @@ module _ (e d : ℕ) (old : List ℕ) where
 
 -- ---- sums of what is added
 
-pub plus-none : {f : ℕ → GF512 .Element} (l : List ℕ) → ((p : ℕ) → f p ≡ GF512 .zero) → Plus f l l
+plus-none : {f : ℕ → GF512 .Element} (l : List ℕ) → ((p : ℕ) → f p ≡ GF512 .zero) → Plus f l l
 plus-none {f} l z = record { long = refl; each = λ p h. sym (rw (z p) (add-zero GF512 (series l p))); small = λ s. s }
 
-pub plus-both : {f g h : ℕ → GF512 .Element} {old mid new : List ℕ} → Plus f old mid → Plus g mid new
+plus-both : {f g h : ℕ → GF512 .Element} {old mid new : List ℕ} → Plus f old mid → Plus g mid new
     → ((p : ℕ) → h p ≡ GF512 .add (f p) (g p)) → Plus h old new
 plus-both u v e = record {
   long = v .long ∙ u .long;
@@ -99,7 +99,7 @@ plus-both u v e = record {
   small = λ s. v .small (u .small s);
 }
 
-pub plus-same : {f g : ℕ → GF512 .Element} {old new : List ℕ} → Plus f old new → ((p : ℕ) → f p ≡ g p) → Plus g old new
+plus-same : {f g : ℕ → GF512 .Element} {old new : List ℕ} → Plus f old new → ((p : ℕ) → f p ≡ g p) → Plus g old new
 plus-same u e = record { long = u .long; each = λ p k. u .each p k ∙ ap (GF512 .add _) (e p); small = u .small }
 
 -- ---- sums that began at zero
@@ -110,11 +110,11 @@ pub record Valued (f : ℕ → GF512 .Element) (n : ℕ) (sums : List ℕ) : Typ
   pub each : (i : ℕ) → i < n → series sums i ≡ f i
   pub small : (i : ℕ) → i < n → getD sums i 0 < 512
 
-zeros-at : (n m i : ℕ) → _≡_ {A = ℕ} (getD (take n (replicate m 0)) i 0) 0
-zeros-at zero m i = refl
-zeros-at (suc n) zero i = refl
-zeros-at (suc n) (suc m) zero = refl
-zeros-at (suc n) (suc m) (suc i) = zeros-at n m i
+pub nothing-at : (n m i : ℕ) → _≡_ {A = ℕ} (getD (take n (replicate m 0)) i 0) 0
+nothing-at zero m i = refl
+nothing-at (suc n) zero i = refl
+nothing-at (suc n) (suc m) zero = refl
+nothing-at (suc n) (suc m) (suc i) = nothing-at n m i
 
 -- f added to the first n of m sums of nothing
 module _ {f : ℕ → GF512 .Element} (n m : ℕ) {zs ys : List ℕ} (z : zs ≡ replicate m 0) (fit : n ≤ m) (u : Plus f (take n zs) ys) where
@@ -122,7 +122,7 @@ module _ {f : ℕ → GF512 .Element} (n m : ℕ) {zs ys : List ℕ} (z : zs ≡
   long = rw z (length-take-le n (replicate m 0) (rw length-replicate fit))
 
   nothing : (i : ℕ) → getD (take n zs) i 0 ≡ 0
-  nothing i = rw z (zeros-at n m i)
+  nothing i = rw z (nothing-at n m i)
 
   pub valued : (rest : List ℕ) → Valued f n (ys ++ rest)
   unfolding series
@@ -148,14 +148,14 @@ term-power c i from p z h =
     ∙ ap₂ (GF512 .mul) (sym (of-power (log c)) ∙ ap element-of (power-log c z h)) (sym (pow-mul GF512 a (from + p) i))
 
 module _ {logs powers : List ℕ} (lent : Lent logs powers) (c : ℕ) (h : c < 512) where
-  log-of : getD logs c 0 ≡ log c
+  pub log-of : getD logs c 0 ≡ log c
   unfolding log
   log-of = ap (λ (l : List ℕ). getD l c 0) (lent .logs-are)
 
-  log-zero : c ≡ 0 → getD logs c 0 ≡ 1021
+  pub log-zero : c ≡ 0 → getD logs c 0 ≡ 1021
   log-zero z = log-of ∙ ap log z ∙ log-0
 
-  log-low : c ≢ 0 → getD logs c 0 < 511
+  pub log-low : c ≢ 0 → getD logs c 0 < 511
   log-low z = rw log-of (log-lt c z h)
 
   pub log-le : getD logs c 0 ≤ 1021

@@ -9,6 +9,7 @@ use lib.ListN.{length, take, drop}
 use Rattle.bits.specs.Words.{Bits, differ}
 use Rattle.bits.specs.Remainders.{remainder}
 use Rattle.bch.specs.Codes.{Code, Codeword, Within}
+use Rattle.bch.specs.Promise.{Mended}
 use Rattle.bch.specs.Registers.{whole, atTop}
 use Rattle.answers.specs.declared.Refusal.the-variants.{Uncorrectable}
 use Rattle.answers.specs.declared.Decoded.{Decoded}
@@ -28,6 +29,11 @@ pub record Candidate (c : Code) (word copy : List ℕ) (m : ℕ) : Type 0 where
   pub count : m ≡ differ copy word
   pub near : m ≤ c .t
   pub only : (v : List ℕ) → Within c word v → v ≡ copy
+
+-- a first try: the answer, or nothing is written
+abbrev pub Single : Code → List ℕ → List ℕ → Decoded → List ℕ → Type 0
+Single c word out (Accepted m) after = Mended c word out (Accepted m) after
+Single c word out (Refused r) after = after ≡ out
 
 abbrev pub Attempt : Code → List ℕ → Tried → List ℕ → Type 0
 Attempt c word (Flipped m) copy = Candidate c word copy m

@@ -1,2 +1,3 @@
 pub mod Locators
 pub mod Candidates
+pub mod Syndromes

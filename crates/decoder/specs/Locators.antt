@@ -1,4 +1,4 @@
--- How the code holds syndromes and a locator, and what it does with them: numbers that stand for elements of GF(512).
+-- How the code holds a locator and the values of polynomials, and what it does with them: numbers that stand for elements of GF(512).
 -- The promise of decode rests on nothing here: it is what the private functions promise one another.
 -- Assumes nothing.
 use mathlib.Core.Path.{_≡_}
@@ -11,7 +11,7 @@ use Rattle.algebra.proofs.Polynomials.{ev}
 use Rattle.algebra.proofs.Berlekamp.{Found}
 use Rattle.field.specs.Tables.{logTable, powerTable}
 use Rattle.field.proofs.Elements.{GF512, element-of}
-use Rattle.field.proofs.Values.{a, series, value}
+use Rattle.field.proofs.Values.{a, series}
 use Rattle.bits.specs.Words.{differ}
 use Rattle.decoder.specs.declared.locator.State.{State}
 
@@ -23,6 +23,10 @@ pub record Lent (logs powers : List ℕ) : Type 0 where
 -- every entry is an element
 abbrev pub Small : List ℕ → Type 0
 Small l = (i : ℕ) → getD l i 0 < 512
+
+-- the entries behind `last` are 0
+abbrev pub Ends : List ℕ → ℕ → Type 0
+Ends l last = (i : ℕ) → last < i → series l i ≡ GF512 .zero
 
 -- f p is added to the entry p, for each p
 pub record Plus (f : ℕ → GF512 .Element) (old new : List ℕ) : Type 0 where
@@ -41,10 +45,6 @@ termAt c i from p = GF512 .mul (element-of c) (pow GF512 (pow GF512 a (from + p)
 -- the value of the first n terms of the locator at a^(from + p)
 abbrev pub valueAt : List ℕ → ℕ → ℕ → ℕ → GF512 .Element
 valueAt locator n from p = ev GF512 n (series locator) (pow GF512 a (from + p))
-
--- the first `count` entries are the values at a, a^2, ..
-abbrev pub Syndromes : List ℕ → ℕ → List ℕ → Type 0
-Syndromes bits count s = (i : ℕ) → i < count → series s i ≡ value (pow GF512 a (suc i)) bits
 
 -- the state after r syndromes
 pub record After (s : List ℕ) (r : ℕ) (q : State) : Type 0 where

@@ -3,16 +3,18 @@
 // With a a root of x^9 + x^4 + 1, a code's generator has the roots a, a^2, .., a^2t; so a word that differs from a codeword in at most t
 // places differs so from one codeword alone, and decode finds it:
 //
-//   mending    the remainder of the whole word: zero for a codeword, which is its own answer; else the steps below, and a last look
-//   terms      the terms of a polynomial, added up at many powers of a at once
-//   syndrome   the values of what is left at a, a^2, .., a^2t
+//   mending    the remainder of the whole word: zero for a codeword, which is its own answer; else the steps below, and a last look; a single
+//              hit is tried before any others
+//   syndrome   the values of that remainder at a, a^2, .., a^2t, eight digits at a time, by the table of digit_values
 //   locator    the shortest recurrence of the syndromes, by Berlekamp and Massey, without inverses
 //   search     the places of the shortened word at which the locator vanishes, flipped in a copy
+//   terms      the terms of a polynomial, added up at many powers of a at once, for search
 //
 // The copy is answered only if it is a codeword, by the remainder again, and differs in at most t places. What the algebra shows is that
 // no word within t of a codeword is missed.
 ghost use Rattle.bch.specs.Promise.{Decoding};
 
+mod digit_values;
 mod locator;
 mod mending;
 mod search;

@@ -8,7 +8,7 @@ ghost use lib.ListN.{take};
 ghost use Rattle.algebra.proofs.Series.{conv, mix};
 ghost use Rattle.field.proofs.Elements.{GF512, element-of};
 ghost use Rattle.field.proofs.Values.{series};
-ghost use Rattle.decoder.specs.Locators.{Lent, Small, After};
+ghost use Rattle.decoder.specs.Locators.{Lent, Small, Ends, After};
 
 pub struct State {
     pub locator: [u16; 34],
@@ -32,27 +32,28 @@ fn start() -> State
     }
 }
 
-// The sum of locator[j] s[r - j] over j up to r.
+// The sum of locator[j] s[r - j] over j up to r: the terms beyond the locator's length are 0.
 fn discrepancy(
     logs: &[u16; 512],
     powers: &[u16; 1022],
     s: &[u16; 32],
     locator: &[u16; 34],
     r: usize,
+    len: usize,
 ) -> u16
-    requires { ⌜ Lent (now logs) (now powers) × (r < 32) ⌝ }
+    requires { ⌜ Lent (now logs) (now powers) × (r < 32) × (len ≤ r) × Ends (now locator) len ⌝ }
     ensures { λ d. ⌜ (element-of d ≡ conv GF512 (series (now (locator .entry))) (series (now (s .entry))) r) × (d < 512) ⌝ }
 {
     let mut d: u16 = 0;
     let mut j: usize = 0;
-    while j <= r {
+    while j <= len {
         d = d ^ field::product_from(logs, powers, locator[j], s[r - j]);
         j += 1;
     }
     d
 }
 
-// b locator + d other, coefficient by coefficient.
+// b locator + d other, coefficient by coefficient up to `last`: behind it both are 0.
 fn mixed(
     logs: &[u16; 512],
     powers: &[u16; 1022],
@@ -60,8 +61,9 @@ fn mixed(
     other: &[u16; 34],
     b: u16,
     d: u16,
+    last: usize,
 ) -> [u16; 34]
-    requires { ⌜ Lent (now logs) (now powers) ⌝ }
+    requires { ⌜ Lent (now logs) (now powers) × (last < 34) × Ends (now locator) last × Ends (now other) last ⌝ }
     ensures { λ p. ⌜ ((i : ℕ) → series p i ≡ mix GF512 (element-of b) (element-of d) (series (now (locator .entry))) (series (now (other .entry))) i) × Small p ⌝ }
 {
     // As slices, whose length the proof knows.
@@ -69,7 +71,7 @@ fn mixed(
     let g: &[u16] = other;
     let mut out = [0u16; 34];
     let mut i: usize = 0;
-    while i < 34 {
+    while i <= last {
         out[i] = field::product_from(logs, powers, b, f[i])
             ^ field::product_from(logs, powers, d, g[i]);
         i += 1;
@@ -101,7 +103,7 @@ fn step(logs: &[u16; 512], powers: &[u16; 1022], s: &[u16; 32], state: State, r:
     let other = state.other;
     let len = state.len;
     let b = state.b;
-    let d = discrepancy(logs, powers, s, &locator, r);
+    let d = discrepancy(logs, powers, s, &locator, r, len);
     if d == 0 {
         return State {
             locator,
@@ -110,19 +112,19 @@ fn step(logs: &[u16; 512], powers: &[u16; 1022], s: &[u16; 32], state: State, r:
             b,
         };
     }
-    let next = mixed(logs, powers, &locator, &other, b, d);
     if r < len + len {
         return State {
-            locator: next,
+            locator: mixed(logs, powers, &locator, &other, b, d, len),
             other: moved(&other),
             len,
             b,
         };
     }
+    let longer = r + 1 - len;
     State {
-        locator: next,
+        locator: mixed(logs, powers, &locator, &other, b, d, longer),
         other: moved(&locator),
-        len: r + 1 - len,
+        len: longer,
         b: d,
     }
 }

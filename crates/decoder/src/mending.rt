@@ -1,11 +1,14 @@
-// One word of a code that is held: itself where it is a codeword, else the copy that an attempt gives.
+// One word of a code that is held: itself where it is a codeword, else a copy with places flipped.
 ghost use mathlib.Core.Path.{_≡_};
+ghost use Prim.Native.Nat.{_-_, _*_};
 ghost use lib.ListN.{length};
 ghost use Rattle.answers.specs.Checks.{passes};
 ghost use Rattle.bch.specs.Promise.{Decodes};
-ghost use Rattle.bch.specs.Registers.{contents};
+ghost use Rattle.bch.specs.Registers.{contents, tops};
 ghost use Rattle.bch.specs.Held.{codeOf, Fitting};
-ghost use Rattle.decoder.specs.Candidates.{leftover, Attempt, Settles};
+ghost use Rattle.decoder.specs.Candidates.{leftover, Single, Attempt, Settles};
+ghost use Rattle.decoder.specs.Locators.{Lent};
+ghost use Rattle.decoder.specs.Syndromes.{Syndromes};
 use crate::locator;
 use crate::search;
 use crate::syndrome;
@@ -34,7 +37,7 @@ pub enum Tried {
     Nothing,
 }
 
-// The word itself where it is a codeword, else the copy that an attempt gives, if that is one.
+// The word itself where it is a codeword, else a copy with places flipped, if one is found that is.
 pub(crate) fn answer(c: Held, bits: &[u8], out: &mut [u8]) -> Decoded
     requires { ⌜ Fitting c (c .n) (now bits) (now out) ⌝ }
     ensures { λ r. ⌜ Decodes (passes (codeOf c)) (now (bits .entry)) (now (out .entry)) r (now (out .exit)) ⌝ }
@@ -49,13 +52,66 @@ pub(crate) fn answer(c: Held, bits: &[u8], out: &mut [u8]) -> Decoded
     mend(c, left, bits, &mut copy[0..n], out)
 }
 
-// The copy that an attempt gives, if it gives one and that is a codeword.
+// A copy with one place flipped, if that is a codeword; else the one with the places flipped that the locator gives.
 fn mend(c: Held, left: Register, bits: &[u8], copy: &mut [u8], out: &mut [u8]) -> Decoded
     requires { ⌜ Fitting c (c .n) (now bits) (now out) ⌝ }
     requires { ⌜ (length (now copy) ≡ c .n) × (contents left ≡ leftover c (now bits)) ⌝ }
     ensures { λ r. ⌜ Decodes (passes (codeOf c)) (now (bits .entry)) (now (out .entry)) r (now (out .exit)) ⌝ }
 {
-    let tried = attempt(c, left, bits, copy);
+    let logs = field::log_table();
+    let powers = field::power_table();
+    let s = syndrome::syndromes(&logs, &powers, left, c.n - c.k, c.t);
+    let first = single(c, &logs, &powers, &s, bits, copy, out);
+    match first {
+        Decoded::Accepted(m) => Decoded::Accepted(m),
+        Decoded::Refused(_) => several(c, &logs, &powers, &s, bits, copy, out),
+    }
+}
+
+// One hit at a^e makes the syndromes a^e, a^2e, a^3e, ..: where the first three say so, that place is flipped and the copy looked at. It is
+// the answer if it is a codeword, whatever the other syndromes are; else nothing is written. Each code mends more than one, which nothing that
+// is known of c says: so it is asked.
+fn single(
+    c: Held,
+    logs: &[u16; 512],
+    powers: &[u16; 1022],
+    s: &[u16; 32],
+    bits: &[u8],
+    copy: &mut [u8],
+    out: &mut [u8],
+) -> Decoded
+    requires { ⌜ Fitting c (c .n) (now bits) (now out) × (length (now copy) ≡ c .n) × Lent (now logs) (now powers) ⌝ }
+    ensures { λ r. ⌜ Single (codeOf c) (now (bits .entry)) (now (out .entry)) r (now (out .exit)) × (length (now (copy .exit)) ≡ c .n) ⌝ }
+{
+    let e = logs[(s[0] % 512) as usize] as usize;
+    if s[2] == field::product_from(logs, powers, s[0], s[1]) {
+        if e < c.n {
+            if 1 < c.t {
+                let place = c.n - 1 - e;
+                bytes::copy(bits, copy);
+                copy[place] = 1 - bits[place];
+                return settle(c, 1, copy, out);
+            }
+        }
+    }
+    Decoded::Refused(Refusal::Uncorrectable(0))
+}
+
+// The copy that an attempt gives, if it gives one and that is a codeword.
+fn several(
+    c: Held,
+    logs: &[u16; 512],
+    powers: &[u16; 1022],
+    s: &[u16; 32],
+    bits: &[u8],
+    copy: &mut [u8],
+    out: &mut [u8],
+) -> Decoded
+    requires { ⌜ Fitting c (c .n) (now bits) (now out) × (length (now copy) ≡ c .n) ⌝ }
+    requires { ⌜ Lent (now logs) (now powers) × Syndromes (tops (c .n - c .k) (leftover c (now bits))) (c .t * 2) (now s) ⌝ }
+    ensures { λ r. ⌜ Decodes (passes (codeOf c)) (now (bits .entry)) (now (out .entry)) r (now (out .exit)) ⌝ }
+{
+    let tried = attempt(c, logs, powers, s, bits, copy);
     match tried {
         Tried::Nothing => Decoded::Refused(Refusal::Uncorrectable(0)),
         Tried::Flipped(m) => settle(c, m, copy, out),
@@ -82,19 +138,23 @@ fn settle(c: Held, m: usize, copy: &[u8], out: &mut [u8]) -> Decoded
 }
 
 // Flips in copy the places that the locator gives, unless it is longer than t.
-fn attempt(c: Held, left: Register, bits: &[u8], copy: &mut [u8]) -> Tried
-    requires { ⌜ Fitting c (c .n) (now bits) (now copy) ⌝ }
-    requires { ⌜ (length (now copy) ≡ c .n) × (contents left ≡ leftover c (now bits)) ⌝ }
+fn attempt(
+    c: Held,
+    logs: &[u16; 512],
+    powers: &[u16; 1022],
+    s: &[u16; 32],
+    bits: &[u8],
+    copy: &mut [u8],
+) -> Tried
+    requires { ⌜ Fitting c (c .n) (now bits) (now copy) × (length (now copy) ≡ c .n) ⌝ }
+    requires { ⌜ Lent (now logs) (now powers) × Syndromes (tops (c .n - c .k) (leftover c (now bits))) (c .t * 2) (now s) ⌝ }
     ensures { λ r. ⌜ Attempt (codeOf c) (now (bits .entry)) r (now (copy .exit)) ⌝ }
 {
-    let logs = field::log_table();
-    let powers = field::power_table();
-    let s = syndrome::syndromes(&powers, left, c.n - c.k, c.t * 2);
-    let found = locator::shortest(&logs, &powers, &s, c.t * 2);
+    let found = locator::shortest(logs, powers, s, c.t * 2);
     let len = found.len;
     if c.t < len {
         return Tried::Nothing;
     }
     let lam = found.locator;
-    Tried::Flipped(search::flip(&logs, &powers, &lam, len, bits, copy))
+    Tried::Flipped(search::flip(logs, powers, &lam, len, bits, copy))
 }

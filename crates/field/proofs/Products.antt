@@ -16,7 +16,7 @@ below x = mod-lt x (lit< tt)
 
 -- ---- every part of the product is additive
 
-digit-left : (a b c : ℕ) → bitXor (a % 2) (b % 2) * c ≡ bitXor (a % 2 * c) (b % 2 * c)
+pub digit-left : (a b c : ℕ) → bitXor (a % 2) (b % 2) * c ≡ bitXor (a % 2 * c) (b % 2 * c)
 digit-left a b c =
     by-digit (λ (x : ℕ). bitXor x (b % 2) * c ≡ bitXor (x * c) (b % 2 * c)) (sym (ap (λ (x : ℕ). bitXor x (b % 2 * c)) (zero-mul c)))
     (by-digit (λ (y : ℕ). bitXor 1 y * c ≡ bitXor (1 * c) (y * c))

@@ -73,7 +73,7 @@ unfolding value valueFrom
 value-nil x = refl
 
 -- what Horner's rule starts from counts as a coefficient before the others
-valueFrom-start : (v x : Element) (bs : List ℕ) → valueFrom v x bs ≡ v ⊗ pow GF512 x (length bs) ⊕ value x bs
+pub valueFrom-start : (v x : Element) (bs : List ℕ) → valueFrom v x bs ≡ v ⊗ pow GF512 x (length bs) ⊕ value x bs
 unfolding value valueFrom
 valueFrom-start v x [] = simp (pow-zero, ring)
 valueFrom-start v x (b ∷ bs) =

@@ -25,12 +25,12 @@ turn w i x y pos h ey ex =
     = drop-cons l (i - 1) 0 (omega (arith, length-lowest w)) ∙ ap₂ (λ (b n : ℕ). b ∷ drop n l) (lowest-at w (i - 1)) s in
     rw (ey, ex, d)
 
--- and with the four bits before i, the digits of b
-turn4 : (w : List ℕ) (i b x y : ℕ) → 4 ≤ i → b < 16 → drop (i - 4) w ≡ digits 4 b ++ drop (i - 4 + 4) w
-    → y ≡ b * 2 ^ 188 + x / 16 → x ≡ atTop (drop i w) → y ≡ atTop (drop (i - 4) w)
-turn4 w i b x y pos hb d ey ex =
-    let s : i - 4 + 4 ≡ i = omega arith in
-    rw (ey, ex, d, s) (sym (at-top-before 4 b (drop i w) (omega arith) hb))
+-- and with the eight bits before i, the digits of b
+turn8 : (w : List ℕ) (i b x y : ℕ) → 8 ≤ i → b < 256 → drop (i - 8) w ≡ digits 8 b ++ drop (i - 8 + 8) w
+    → y ≡ b * 2 ^ 184 + x / 256 → x ≡ atTop (drop i w) → y ≡ atTop (drop (i - 8) w)
+turn8 w i b x y pos hb d ey ex =
+    let s : i - 8 + 8 ≡ i = omega arith in
+    rw (ey, ex, d, s) (sym (at-top-before 8 b (drop i w) (omega arith) hb))
 
 -- the register x holds the word from i on
 abbrev Holds : List ℕ → ℕ → ℕ → Type 0
@@ -58,8 +58,8 @@ loop-again : tie.Need-loop-again Inv-loop μ-loop Inv-loop2 μ-loop2
 loop-again c =
     let l = c .before .before .before .loop in
     let w = c .before .before .before .before .before .args .word .now in
-    let b = c .before .four .ensures in
-    (omega arith, turn4 (lowest w) (l .i) _ (contents (l .r)) _ (omega arith) (b .0) (b .1) (c .down4 .ensures) (l .inv .1))
+    let b = c .before .eight .ensures in
+    (omega arith, turn8 (lowest w) (l .i) _ (contents (l .r)) _ (omega arith) (b .0) (b .1) (c .down8 .ensures) (l .inv .1))
 
 loop2-holds : tie.Need-loop2-holds Inv-loop μ-loop Inv-loop2 μ-loop2
 loop2-holds c = c .before .loop .inv

@@ -1,7 +1,6 @@
--- `decoder::locator::discrepancy` meets its contract: d is the sum of the terms before j.
+-- `decoder::locator::discrepancy` meets its contract: d is the sum of the terms before j, and the terms behind len are zero.
 -- Assumes nothing.
-use mathlib.Core.Path.{_≡_}
-use Prim.Native.Nat.{suc, _≤_, _+_, _-_}
+use Prim.Native.Nat.{_≤_, _+_, _-_}
 use native.Mathlib.Numerals.{add-one}
 use native.Mathlib.Omega.{arith}
 use Rattle.decoder.proofs.Coefficients.{Summed, summed-none, summed-more, summed-all}
@@ -10,10 +9,10 @@ use Rattle.decoder.proofs.locator.discrepancy.Statement.{statement}
 use Rattle.decoder.proofs.locator.discrepancy.Tie as tie
 
 abbrev Inv-loop : tie.InvT-loop
-Inv-loop logs powers s locator r d₀ j₀ d j = (j ≤ r + 1) × Summed locator s r j d
+Inv-loop logs powers s locator r len d₀ j₀ d j = (j ≤ len + 1) × Summed locator s r j d
 
 abbrev μ-loop : tie.MeasureT-loop
-μ-loop logs powers s locator r d₀ j₀ d j = r + 1 - j
+μ-loop logs powers s locator r len d₀ j₀ d j = len + 1 - j
 
 loop-holds : tie.Need-loop-holds Inv-loop μ-loop
 loop-holds c = (search needs, summed-none)
@@ -27,8 +26,8 @@ loop-again c =
 returns : tie.Need-returns Inv-loop μ-loop
 returns c =
     let l = c .before .loop in
-    let e : l .j ≡ suc (c .before .before .args .r) = omega arith in
-    (summed-all (rw e at (l .inv .1)), l .inv .1 .small)
+    let start = c .before .before in
+    (summed-all (start .args .r + 1 - l .j) (start .pre .3) (omega arith) (omega arith) (l .inv .1), l .inv .1 .small)
 
 pub discrepancy-spec : {M : Type 1} → statement M
 discrepancy-spec =
@@ -37,6 +36,7 @@ discrepancy-spec =
     Inv-loop
     μ-loop
     loop-holds
+    (λ c. search needs)
     (λ c. search needs)
     (λ c. search needs)
     (λ c. search needs)

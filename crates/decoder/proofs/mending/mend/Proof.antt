@@ -1,40 +1,51 @@
--- `decoder::mending::mend` meets its contract: the only candidate is the answer exactly where it is a codeword.
+-- `decoder::mending::mend` meets its contract: the first try gives the answer or writes nothing, and the second gives it for every word.
 -- Assumes nothing.
-use mathlib.Core.Path.{refl}
-use mathlib.Core.Logic.{inr}
-use Rattle.decoder.proofs.Attempts.{settled}
+use mathlib.Core.Path.{ap}
+use mathlib.Core.Logic.{inl}
+use native.Mathlib.Omega.{arith}
+use lib.ListN.{length}
 use borrow.Author.Needs.{needs}
 use Rattle.decoder.proofs.mending.mend.Statement.{statement}
 use Rattle.decoder.proofs.mending.mend.Tie as tie
 
-settle-requires : tie.Need-settle-requires
-settle-requires c κs =
-    let q = c .before .before .before .before .before .before .before in
-    let s = q .before .before .before .before .before in
-    let found = rw (c .before .before .before .tried .given .1) at (q .attempt .ensures) in
-    record { sound = s .pre .0 .sound; bits = found .bits; long = found .long; room = s .pre .0 .room }
+several-requires : tie.Need-several-requires
+several-requires c κs =
+    let q = c .before .before .before .before .before .before .before .before .before .before .before in
+    let tables = q .before .before .before .before .before .before .before .before .before .before in
+    let s = tables .before .before .before .before .before in
+    let kept = rw (c .before .before .before .before .before .enum-told .given .1) at (q .single .ensures .0) in (
+      (
+        record { sound = s .pre .0 .sound; bits = s .pre .0 .bits; long = s .pre .0 .long; room = omega (arith, s .pre .0 .room, ap length kept) },
+        q .single .ensures .1,
+      ),
+      (
+        record { logs-are = tables .before .log-table .ensures; powers-are = tables .power-table .ensures },
+        rw (s .pre .1 .1) at (q .before .before .before .before .before .before .syndromes .ensures),
+      ),
+    )
 
 returns : tie.Need-returns
-returns c =
-    let none = rw (c .enum-told .given .1) at (c .before .before .before .before .attempt .ensures) in
-    inr (record { none = none; tells = refl; left = refl })
+returns c = inl (rw (c .before .first .given .1) at (c .before .before .before .before .before .before .before .single .ensures .0))
 
 returns-2 : tie.Need-returns-2
 returns-2 c =
-    let q = c .before .before .before .before .before .before .before .before .before .before in
-    let s = q .before .before .before .before .before in
-    let settle = c .before .before .settle in
-    settled (rw (c .before .before .before .before .before .before .tried .given .1) at (q .attempt .ensures))
-    (s .args .out .now) (settle .result) (settle .last .1 .1 .1 .0) (settle .ensures)
+    let told = c .before .before .before .before .before .before .before .before .before .before in
+    let kept = rw (told .enum-told .given .1) at (told .before .before .before .before .before .before .single .ensures .0) in
+    rw kept at (c .before .before .before .before .several .ensures)
 
 pub mend-spec : {M : Type 1} → statement M
 mend-spec =
     tie.close
     (tie.spec
     (λ c κs. search needs)
+    (λ c κs. search needs)
+    (λ c. search needs)
+    (λ c κs. search needs)
+    (λ c κs. search needs)
     (λ c. search needs)
     (λ c. search needs)
-    settle-requires
+    several-requires
+    (λ c. search needs)
     (λ c. search needs)
     returns
     (λ c. search needs)
