@@ -15,7 +15,7 @@ use std::thread;
 const BATCH: u64 = 1_000;
 
 /// Differences that are printed.
-const SHOWN: u64 = 10;
+pub(crate) const SHOWN: u64 = 10;
 
 /// Compares the first `count` requests; writes differences, a tally and `N passed, M failed`. True if none failed.
 pub fn compare(seed: u64, count: u64, jobs: &[u8], command: &[String], to: &mut impl Write) -> io::Result<bool> {
@@ -114,14 +114,14 @@ fn answered(mut request: Request, tally: &mut Tally) -> Vec<u8> {
 
 /// What another program did.
 #[derive(Default)]
-struct Got {
-    output: Vec<u8>,
+pub(crate) struct Got {
+    pub(crate) output: Vec<u8>,
     /// Why it could not be run, or that it was killed.
-    trouble: Option<String>,
+    pub(crate) trouble: Option<String>,
 }
 
 /// Runs a program on this input.
-fn run(command: &[String], input: &[u8]) -> Got {
+pub(crate) fn run(command: &[String], input: &[u8]) -> Got {
     let spawned = Command::new(&command[0]).args(&command[1..]).stdin(Stdio::piped()).stdout(Stdio::piped()).spawn();
     let mut child = match spawned {
         Ok(child) => child,
@@ -192,7 +192,7 @@ pub fn described(request: &Request) -> String {
 }
 
 /// Both heads, and the first byte where the responses part.
-fn difference(request: &Request, expected: &[u8], got: &[u8]) -> String {
+pub(crate) fn difference(request: &Request, expected: &[u8], got: &[u8]) -> String {
     let at = expected.iter().zip(got).position(|(e, g)| e != g).unwrap_or(got.len().min(expected.len()));
     let heads = format!("  expected {}\n  got      {}", head(request, expected), head(request, got));
     format!("{heads}\n  of {} bytes, {} came; first difference at {}", expected.len(), got.len(), part(request, at))

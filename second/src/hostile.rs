@@ -66,7 +66,7 @@ fn unknown(rng: &mut Rng, known: std::ops::RangeInclusive<u8>) -> u8 {
 }
 
 /// Bytes of a frame: any, or all alike.
-fn bytes_of_a_frame(rng: &mut Rng, length: usize) -> Vec<u8> {
+pub(crate) fn bytes_of_a_frame(rng: &mut Rng, length: usize) -> Vec<u8> {
     match rng.below(8) {
         0 => vec![0; length],
         1 => vec![255; length],

@@ -1,5 +1,6 @@
-//! The independent second program of Ortkaveq: HiNoC payload coding (ITU-T J.195.2, as document 01 reads it) written
-//! a second time, in another language and by other methods than the proved crates, so that the two can be compared.
+//! The independent second program of Ortkaveq: HiNoC payload coding (ITU-T J.195.2, as document 01 reads it, with the
+//! frame check of request 6) written a second time, in another language and by other methods than the proved crates, so
+//! that the two can be compared.
 //!
 //! In the order data flows:
 //!
@@ -9,13 +10,14 @@
 //! | `field`, `logs` | GF(512) by carry-less multiplication; products by logarithms built from it at start-up |
 //! | `poly`, `bch` | division of bit vectors; the three codes, decoded by Peterson's linear equations |
 //! | `points`, `dqpsk`, `grid` | Annex B as printed and its repairs; Table 1; equation 4 |
-//! | `bits`, `scrambler`, `check` | most significant bit first; clause 6.2; clause 7.4.2 |
+//! | `bits`, `scrambler`, `check` | most significant bit first; clause 6.2; clause 7.4.2, by the rule of request 6 or another |
 //! | `payload_a`, `payload_b` | the two payloads, both directions |
 //! | `trial` | the request and response format of the trial program |
 //! | `rng`, `hostile` | requests from a seed, most of them meant to break something |
 //! | `stray` | kinds of stray points, most of them near the legal ones |
 //! | `largest` | the largest frames of Payload B, and one byte or block more |
 //! | `compare`, `tally`, `numbers` | driving another program; counting refusals; document 01's numbers |
+//! | `earlier` | driving another program across the two rules of the frame check |
 //! | `astray` | words with more than t hits that are mended into a codeword that was not sent |
 
 pub mod answer;
@@ -25,6 +27,7 @@ pub mod bits;
 pub mod check;
 pub mod compare;
 pub mod dqpsk;
+pub mod earlier;
 pub mod field;
 pub mod grid;
 pub mod hostile;

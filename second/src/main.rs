@@ -2,7 +2,7 @@
 
 use second::points::constellation;
 use second::tally::Tally;
-use second::{astray, compare, field, hostile, largest, numbers, trial};
+use second::{astray, compare, earlier, field, hostile, largest, numbers, trial};
 use std::io::{self, BufWriter, Write};
 use std::process::ExitCode;
 
@@ -11,10 +11,11 @@ second requests SEED COUNT [JOBS]               writes requests for a trial prog
 second responses < REQUESTS                     writes the responses that are expected
 second compare SEED COUNT [JOBS] -- COMMAND..   drives a trial program, prints differences and 'N passed, M failed'
 second largest SEED -- COMMAND..                drives a trial program with the largest frames of Payload B, and one byte or block more
+second earlier SEED COUNT -- COMMAND..          drives a trial program against the earlier frame check: each must refuse what the other sends; 'N passed, M failed'
 second one SEED INDEX [JOBS]                    writes the single request of this index
 second tally SEED COUNT [JOBS]                  counts the refusal numbers of each job, their places, what came as far as the decoder, and kinds of stray points
 second astray SEED COUNT [CODES]                counts words with more than t hits that are refused, and that are mended into another codeword
-second numbers                                  checks document 01's numbers
+second numbers                                  checks document 01's numbers, the frame check's by request 6
 second field                                    writes all products and inverses of GF(512)
 second points                                   writes all points, and the label of every point near them
 JOBS is a string of job digits, such as 2 or 56; without it, 123456. CODES likewise; without it, 123.";
@@ -24,8 +25,6 @@ fn main() -> ExitCode {
     match run(&args) {
         Ok(true) => ExitCode::SUCCESS,
         Ok(false) => ExitCode::FAILURE,
-        // Whoever reads our output may stop reading.
-        Err(error) if error.kind() == io::ErrorKind::BrokenPipe => ExitCode::SUCCESS,
         Err(error) => {
             eprintln!("second: {error}");
             ExitCode::FAILURE
@@ -42,14 +41,19 @@ fn run(args: &[String]) -> io::Result<bool> {
             compare::compare(number(seed)?, number(count)?, &jobs_of(jobs)?, &command, &mut out)?
         }
         ["largest", seed, ref rest @ ..] => {
-            let (_, command) = command_of(rest)?;
+            let command = command_alone(rest)?;
             compare::compare_all(&largest::requests(number(seed)?), &command, &mut out)?
         }
-        ["numbers"] => numbers::numbers(&mut out)?,
-        _ => {
-            write(&words, &mut out)?;
-            true
+        ["earlier", seed, count, ref rest @ ..] => {
+            let command = command_alone(rest)?;
+            earlier::earlier(number(seed)?, number(count)?, &command, &mut out)?
         }
+        ["numbers"] => numbers::numbers(&mut out)?,
+        _ => match write(&words, &mut out).and_then(|()| out.flush()) {
+            // Whoever reads what is only written may stop reading.
+            Err(error) if error.kind() == io::ErrorKind::BrokenPipe => return Ok(true),
+            written => written.map(|()| true)?,
+        },
     };
     out.flush()?;
     Ok(good)
@@ -86,6 +90,14 @@ fn command_of<'a, 'b>(words: &'a [&'b str]) -> io::Result<(&'a [&'b str], Vec<St
         return Err(usage("no command"));
     }
     Ok((&words[..dashes], command))
+}
+
+/// The command after --, where no word may stand before it.
+fn command_alone(words: &[&str]) -> io::Result<Vec<String>> {
+    match command_of(words)? {
+        ([], command) => Ok(command),
+        _ => Err(usage("too many words")),
+    }
 }
 
 fn usage(why: &str) -> io::Error {

@@ -1,4 +1,5 @@
-//! Document 01's "Numbers to try", as far as they can be run, and the facts about codes and tables beside them.
+//! Document 01's "Numbers to try", as far as they can be run, those of the frame check by the rule of request 6, and
+//! the facts about codes and tables beside them.
 
 use crate::answer::{Answer, Counts, Refusal};
 use crate::bch::{self, Code};
@@ -35,11 +36,24 @@ fn scrambler_and_check() -> Vec<Line> {
     let zero = check::value(&message);
     message[463] = 1;
     let last = check::value(&message);
+    let last_bits = [464, 752].into_iter().all(last_bit_counts);
     vec![
         (format!("first 16 scrambler bits: {first}"), first == "1101101011010010"),
-        (format!("check of 464 zero bits: {zero:08X}"), zero == 0),
-        (format!("check with only the last bit set: {last:08X}"), last == 0x04C1_1DB7),
+        (format!("check of 464 zero bits: {zero:08X}"), zero == 0x3846_7B63),
+        (format!("check with only the last bit set: {last:08X}"), last == 0x3C87_66D4),
+        ("1000 messages of 464 bits, 1000 of 752: the last bit changes the check by 04C11DB7".to_string(), last_bits),
     ]
+}
+
+/// Whether changing only the last bit changes the check by the polynomial, in 1000 messages of this length.
+fn last_bit_counts(length: usize) -> bool {
+    let mut rng = Rng::new(length as u64);
+    (0..1_000).all(|_| {
+        let message = rng.bits(length);
+        let mut changed = message.clone();
+        changed[length - 1] ^= 1;
+        check::value(&message) ^ check::value(&changed) == 0x04C1_1DB7
+    })
 }
 
 fn all_codes() -> [(u8, &'static Code); 3] {

@@ -5,6 +5,7 @@
 use crate::answer::{check, Answer, Counts, Refusal};
 use crate::bch::{self, Code};
 use crate::bits::{self, differ};
+use crate::check::{Rule, RULE};
 use crate::points::Point;
 use crate::{check as frame_check, dqpsk, grid, scrambler};
 
@@ -31,16 +32,26 @@ pub fn frame_bytes(mode: u8) -> Option<usize> {
 
 /// Sends a frame into the first 512 elements of each list.
 pub fn send(mode: u8, frame: &[u8], i: &mut [i16], q: &mut [i16]) -> Answer {
-    let length = frame_bytes(mode).ok_or(Refusal::Unknown)?;
-    check(frame.len() == length, Refusal::WrongLength)?;
-    check(i.len() >= POINTS && q.len() >= POINTS, Refusal::NoRoom)?;
-    let sent = coded(mode, &scrambler::scrambled(&with_check(frame)));
-    grid::write(&dqpsk::points(&with_fields(&sent)), i, q);
-    Ok(Counts::default())
+    send_by(RULE, mode, frame, i, q)
 }
 
 /// Receives the first 512 elements of each list into the first 58 or 94 bytes of the area.
 pub fn receive(mode: u8, i: &[i16], q: &[i16], area: &mut [u8]) -> Answer {
+    receive_by(RULE, mode, i, q, area)
+}
+
+/// Sends with the frame check by this rule.
+pub fn send_by(rule: Rule, mode: u8, frame: &[u8], i: &mut [i16], q: &mut [i16]) -> Answer {
+    let length = frame_bytes(mode).ok_or(Refusal::Unknown)?;
+    check(frame.len() == length, Refusal::WrongLength)?;
+    check(i.len() >= POINTS && q.len() >= POINTS, Refusal::NoRoom)?;
+    let sent = coded(mode, &scrambler::scrambled(&with_check_by(rule, frame)));
+    grid::write(&dqpsk::points(&with_fields(&sent)), i, q);
+    Ok(Counts::default())
+}
+
+/// Receives with the frame check by this rule.
+pub fn receive_by(rule: Rule, mode: u8, i: &[i16], q: &[i16], area: &mut [u8]) -> Answer {
     let length = frame_bytes(mode).ok_or(Refusal::Unknown)?;
     check(i.len() >= POINTS && q.len() >= POINTS && area.len() >= length, Refusal::NoRoom)?;
     grid::check_unavailable(SYMBOLS, i, q)?;
@@ -48,15 +59,20 @@ pub fn receive(mode: u8, i: &[i16], q: &[i16], area: &mut [u8]) -> Answer {
     let (information, mended) = decoded(mode, &received)?;
     let plain = scrambler::scrambled(&information);
     let (message, sum) = plain.split_at(8 * length);
-    check(frame_check::of(message) == sum, Refusal::WrongCheck)?;
+    check(frame_check::of_by(rule, message) == sum, Refusal::WrongCheck)?;
     area[..length].copy_from_slice(&bits::to_bytes(message));
     Ok(Counts { mended, protected })
 }
 
 /// The frame's bits and their check (clause 7.4.2).
 pub fn with_check(frame: &[u8]) -> Vec<u8> {
+    with_check_by(RULE, frame)
+}
+
+/// The frame's bits and their check by this rule.
+pub fn with_check_by(rule: Rule, frame: &[u8]) -> Vec<u8> {
     let message = bits::of_bytes(frame);
-    let sum = frame_check::of(&message);
+    let sum = frame_check::of_by(rule, &message);
     [message, sum].concat()
 }
 
@@ -114,6 +130,7 @@ fn legal_points(i: &[i16], q: &[i16]) -> Result<Vec<Point>, Refusal> {
 #[cfg(test)]
 mod tests {
     use super::*;
+    use crate::check::EARLIER;
     use crate::rng::Rng;
 
     fn sent(mode: u8, frame: &[u8]) -> (Vec<i16>, Vec<i16>) {
@@ -142,6 +159,24 @@ mod tests {
             let mut area = vec![0xEE; frame.len() + 2];
             assert_eq!(receive(mode, &i, &q, &mut area), Ok(Counts::default()));
             assert_eq!((&area[..frame.len()], &area[frame.len()..]), (&frame[..], &[0xEE; 2][..]));
+        }
+    }
+
+    #[test]
+    fn what_one_rule_sends_a_receiver_of_the_other_refuses_with_10() {
+        let mut rng = Rng::new(10);
+        for round in 0..200 {
+            let mode = round % 2;
+            let frame = rng.bytes(frame_bytes(mode).unwrap());
+            for (theirs, ours) in [(RULE, EARLIER), (EARLIER, RULE)] {
+                let (mut i, mut q) = (vec![77; POINTS], vec![77; POINTS]);
+                send_by(theirs, mode, &frame, &mut i, &mut q).unwrap();
+                let mut area = vec![0xEE; frame.len() + 2];
+                assert_eq!(receive_by(ours, mode, &i, &q, &mut area), Err(Refusal::WrongCheck));
+                assert_eq!(area, vec![0xEE; frame.len() + 2]);
+                assert_eq!(receive_by(theirs, mode, &i, &q, &mut area), Ok(Counts::default()));
+                assert_eq!((&area[..frame.len()], &area[frame.len()..]), (&frame[..], &[0xEE; 2][..]));
+            }
         }
     }
 

@@ -186,7 +186,8 @@ fn bytes(from: &mut impl Read) -> Option<Vec<u8>> {
     Some(list)
 }
 
-fn levels(from: &mut impl Read) -> Option<Vec<i16>> {
+/// A list of levels.
+pub(crate) fn levels(from: &mut impl Read) -> Option<Vec<i16>> {
     let mut list = vec![0; 2 * count(from, MOST_POINTS)?];
     from.read_exact(&mut list).ok()?;
     Some(list.chunks(2).map(|two| i16::from_le_bytes([two[0], two[1]])).collect())

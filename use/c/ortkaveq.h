@@ -124,7 +124,8 @@ struct ortkaveq_answer ortkaveq_decode(uint8_t code, const uint8_t *word, size_t
 /* ---- Payload A: modes 0 and 1, two OFDM symbols of DQPSK */
 
 /*
- * Sends a frame.
+ * Sends a frame, with the frame check behind it, whose register starts at all ones, and whose result is inverted: a receiver that has another rule refuses
+ * every frame.
  * Reads: frame, 94 bytes in mode 0 and 58 in mode 1, exactly. Writes: the first 512 elements of i and of q.
  * Refuses with 1, 2, 3. A refusal writes nothing; elements beyond the 512 keep what they held.
  */

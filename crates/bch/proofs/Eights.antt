@@ -10,12 +10,12 @@ use lib.Bits.{bitXor, xor-shr, xor-mod, xor-shifted, xor-zero-l, xor-zero-r}
 use lib.Dec.{lit<}
 use lib.ListN.{length, replicate, length-replicate}
 use lib.Pow.{pow-pos, shl-shr, shr-shr, field}
-use Rattle.ground.proofs.Xors.{xors, xor-left-comm, xor-medial, xor-double, by-digit}
-use Rattle.field.proofs.Products.{digit-left}
+use Rattle.ground.proofs.Xors.{xors, xor-left-comm, xor-double, by-digit}
 use Rattle.bits.specs.Words.{digits}
 use Rattle.bits.specs.Remainders.{reduced, step, remainderFrom, remainder}
-use Rattle.bits.proofs.Digits.{digit-xor, length-digits, digits-last}
-use Rattle.bits.proofs.Remainders.{halved, step-other, xor-scaled, from-append, leading-zeros}
+use Rattle.bits.proofs.Digits.{length-digits, digits-last}
+use Rattle.bits.proofs.Sums.{zeros-sum}
+use Rattle.bits.proofs.Remainders.{halved, step-other, xor-scaled, from-append, leading-zeros, from-sum}
 use Rattle.bch.specs.Registers.{chosen}
 use Rattle.bch.proofs.Nibbles.{eight-digits}
 use Rattle.bch.proofs.Tops.{mod-times}
@@ -43,23 +43,10 @@ unit-at-8 g = refl
 -- ---- one run of bits behind another
 
 module _ (r g : ℕ) where
-  reduced-xor : (u v : ℕ) → reduced r g (bitXor u v) ≡ bitXor (reduced r g u) (reduced r g v)
-  unfolding reduced
-  reduced-xor u v =
-      rw (digit-xor r u v, digit-left (u / 2 ^ r) (v / 2 ^ r) g) (xor-medial (u / 2 ^ r % 2 * g) (v / 2 ^ r % 2 * g) u v)
-
-  step-xor : (x y b : ℕ) → step r g (bitXor x y) b ≡ bitXor (step r g x 0) (step r g y b)
-  unfolding step
-  step-xor x y b =
-      let e : bitXor (b * 2 ^ r) (bitXor x y * 2) ≡ bitXor (bitXor (0 * 2 ^ r) (x * 2)) (bitXor (b * 2 ^ r) (y * 2))
-      = rw (xor-double x y, zero-mul (2 ^ r)) (simp xors) in
-      rw e (reduced-xor (bitXor (0 * 2 ^ r) (x * 2)) (bitXor (b * 2 ^ r) (y * 2)))
-
   from-xor : (w : List ℕ) (x y : ℕ)
       → remainderFrom r g (bitXor x y) w ≡ bitXor (remainderFrom r g x (replicate (length w) 0)) (remainderFrom r g y w)
-  unfolding remainderFrom
-  from-xor [] x y = refl
-  from-xor (b ∷ w) x y = rw (step-xor x y b) (from-xor w (step r g x 0) (step r g y b))
+  from-xor w x y =
+      ap (remainderFrom r g (bitXor x y)) (sym (zeros-sum w)) ∙ from-sum r g (replicate (length w) 0) w x y (length-replicate (length w) 0)
 
   -- the remainder of v ++ w is that of v with zeros behind it and that of w, added
   apart : (v w : List ℕ) → remainder r g (v ++ w) ≡ bitXor (remainder r g (v ++ replicate (length w) 0)) (remainder r g w)

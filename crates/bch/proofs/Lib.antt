@@ -1,4 +1,3 @@
-pub mod Sums
 pub mod Errors
 pub mod Generators
 pub mod Roots

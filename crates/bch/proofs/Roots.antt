@@ -16,7 +16,7 @@ use Rattle.bits.specs.Remainders.{reduced, step, remainderFrom, remainder}
 use Rattle.bch.specs.Codes.{Code, encoded, Codeword}
 use Rattle.bch.specs.Held.{Rooted}
 use Rattle.bits.proofs.Digits.{bits-take, length-digits, digit-xor}
-use Rattle.bch.proofs.Sums.{digits-xor}
+use Rattle.bits.proofs.Sums.{digits-xor}
 use Rattle.bits.proofs.Remainders.{halved}
 open Field2 GF512 using (Element, zero as 𝟘, add as _⊕_, mul as _⊗_)
 

@@ -1,7 +1,7 @@
 -- Bits at the top of 192 digits: read off, put there, and as the digits of a number.
 -- Assumes nothing.
 use mathlib.Core.Path.{_≡_, refl, sym, ap, ap₂, _∙_}
-use mathlib.Core.List.{List, [], _∷_, _++_, append-nil}
+use mathlib.Core.List.{List, [], _∷_, _++_, append-nil, zipWith}
 use Prim.Native.Nat.{ℕ, zero, suc, _+_, _-_, _*_, _/_, _%_, _^_, _≤_, _<_}
 use native.Mathlib.Omega.{arith}
 use native.Mathlib.Nat.{le-refl, mod-lt, mod-eq-of-lt, div-add-mod', pow-suc, suc-add, mul-assoc, add-zero, zero-mul, zero-mod, zero-div, mod-one, mul-add-mod-self-right}
@@ -14,7 +14,6 @@ use lib.Pow.{pow-pos, pow-add, shl-shr, shr-shr, shr-lt, high, field, mod-pow-ad
 use Rattle.ground.proofs.Xors.{xor-double}
 use Rattle.bits.specs.Words.{Bits, digits}
 use Rattle.bch.specs.Registers.{tops, atTop}
-use Rattle.field.proofs.Values.{plus}
 use Rattle.bits.proofs.Remainders.{halved}
 
 pub mod-times : (n q p : ℕ) → n % p * q % p ≡ n * q % p
@@ -70,8 +69,8 @@ tops-shifted (suc m) k x h =
 pub digits-tops : (r x : ℕ) → r ≤ 192 → digits r x ≡ tops r (x * 2 ^ (192 - r))
 digits-tops r x h = sym (tops-shifted r (192 - r) (x * 2 ^ (192 - r)) (omega arith) ∙ ap (digits r) (shl-shr x (192 - r)))
 
-pub tops-xor : (m x y : ℕ) → tops m (bitXor x y) ≡ plus (tops m x) (tops m y)
-unfolding tops plus
+pub tops-xor : (m x y : ℕ) → tops m (bitXor x y) ≡ zipWith bitXor (tops m x) (tops m y)
+unfolding tops zipWith
 tops-xor zero x y = refl
 tops-xor (suc m) x y =
     ap₂ _∷_ (ap (λ (n : ℕ). n % 2) (xor-shr x y 191) ∙ xor-mod (x / 2 ^ 191) (y / 2 ^ 191) 1)

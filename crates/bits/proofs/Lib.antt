@@ -1,5 +1,6 @@
 -- The laws of the crate, in the order in which they rest on each other.
 pub mod Digits
+pub mod Sums
 pub mod Distances
 pub mod Remainders
 pub mod Numbers

@@ -18,7 +18,7 @@ digits-snoc r x b h =
     let m : (x * 2 + b) % 2 ≡ b = omega arith in
     digits-last r (x * 2 + b) ∙ ap₂ (λ (y c : ℕ). digits r y ++ (c ∷ [])) d m
 
-digits-same : (r x y : ℕ) → digits r x ≡ digits r y → x % 2 ^ r ≡ y % 2 ^ r
+pub digits-same : (r x y : ℕ) → digits r x ≡ digits r y → x % 2 ^ r ≡ y % 2 ^ r
 unfolding digits
 digits-same zero x y e = mod-one x ∙ sym (mod-one y)
 digits-same (suc r) x y e =

@@ -1,7 +1,8 @@
--- Remainders: one step of the register, word after word, what it stays below, and a generator and a remainder that stand higher by k places.
+-- Remainders: one step of the register, word after word, what it stays below, the remainder of a sum, and a generator and a remainder that stand higher by k
+-- places.
 -- Assumes nothing.
 use mathlib.Core.Path.{_≡_, refl, sym, ap, ap₂, _∙_}
-use mathlib.Core.List.{List, [], _∷_, _++_}
+use mathlib.Core.List.{List, [], _∷_, _++_, zipWith}
 use mathlib.Core.Logic.{_≢_}
 use Prim.Native.Nat.{ℕ, zero, suc, _+_, _-_, _*_, _/_, _%_, _^_, _≤_, _<_}
 use native.Mathlib.Omega.{arith}
@@ -9,10 +10,12 @@ use native.Mathlib.Decide.{ℕ-discrete}
 use native.Mathlib.Nat.{mod-lt, div-add-mod', div-eq-of-lt, div-lt-iff-lt-mul, mul-div-mul-right, mul-assoc, zero-mul, zero-div, zero-mod, add-zero, pow-suc, add-sub-of-le}
 use lib.Bits.{bitXor, xor-block, xor-lt, xor-self, xor-comm}
 use lib.Dec.{lit<}
-use lib.ListN.{replicate}
+use lib.ListN.{length, replicate}
 use lib.Pow.{pow-pos, pow-add, high}
+use Rattle.ground.proofs.Xors.{digit-left, xor-double, xor-medial}
 use Rattle.bits.specs.Words.{Bits}
 use Rattle.bits.specs.Remainders.{reduced, step, remainderFrom, remainder}
+use Rattle.bits.proofs.Digits.{digit-xor}
 
 -- ---- one step of a register of r digits
 
@@ -93,6 +96,32 @@ remainder-lt r g degree m bits = from 0 (pow-pos r) m bits
 pub xor-scaled : (k a b : ℕ) → bitXor (a * 2 ^ k) (b * 2 ^ k) ≡ bitXor a b * 2 ^ k
 xor-scaled k a b =
     sym (ap₂ bitXor (add-zero (a * 2 ^ k)) (add-zero (b * 2 ^ k))) ∙ xor-block k a b 0 0 (pow-pos k) (pow-pos k) ∙ add-zero (bitXor a b * 2 ^ k)
+
+-- ---- registers and words of one length, added: what the register holds then is added
+
+module _ (r g : ℕ) where
+  reduced-xor : (u v : ℕ) → reduced r g (bitXor u v) ≡ bitXor (reduced r g u) (reduced r g v)
+  unfolding reduced
+  reduced-xor u v =
+      rw (digit-xor r u v, digit-left (u / 2 ^ r) (v / 2 ^ r) g) (xor-medial (u / 2 ^ r % 2 * g) (v / 2 ^ r % 2 * g) u v)
+
+  step-sum : (x y b c : ℕ) → step r g (bitXor x y) (bitXor b c) ≡ bitXor (step r g x b) (step r g y c)
+  unfolding step
+  step-sum x y b c =
+      let e : bitXor (bitXor b c * 2 ^ r) (bitXor x y * 2) ≡ bitXor (bitXor (b * 2 ^ r) (x * 2)) (bitXor (c * 2 ^ r) (y * 2))
+      = rw (← (xor-scaled r b c), xor-double x y) (xor-medial (b * 2 ^ r) (c * 2 ^ r) (x * 2) (y * 2)) in
+      rw e (reduced-xor (bitXor (b * 2 ^ r) (x * 2)) (bitXor (c * 2 ^ r) (y * 2)))
+
+  pub from-sum : (v w : List ℕ) (x y : ℕ) → length v ≡ length w
+      → remainderFrom r g (bitXor x y) (zipWith bitXor v w) ≡ bitXor (remainderFrom r g x v) (remainderFrom r g y w)
+  unfolding remainderFrom zipWith
+  from-sum [] [] x y e = refl
+  from-sum [] (c ∷ w) x y e = absurd (omega arith)
+  from-sum (b ∷ v) [] x y e = absurd (omega arith)
+  from-sum (b ∷ v) (c ∷ w) x y e =
+      ap (λ (z : ℕ). remainderFrom r g z (zipWith bitXor v w)) (step-sum x y b c) ∙ from-sum v w (step r g x b) (step r g y c) (omega arith)
+
+-- ---- k places higher
 
 module _ (r k g : ℕ) where
   step-scaled : (x b : ℕ) → step (r + k) (g * 2 ^ k) (x * 2 ^ k) b ≡ step r g x b * 2 ^ k

@@ -18,6 +18,6 @@ unfoldable pub remainderFrom : ℕ → ℕ → ℕ → List ℕ → ℕ
 remainderFrom r g register [] = register
 remainderFrom r g register (b ∷ bs) = remainderFrom r g (step r g register b) bs
 
--- the register starts at zero
+-- from zero it ends with the remainder
 unfoldable pub remainder : ℕ → ℕ → List ℕ → ℕ
 remainder r g bs = remainderFrom r g 0 bs

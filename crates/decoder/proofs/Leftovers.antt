@@ -1,7 +1,7 @@
 -- The remainder of a whole word: it is zero exactly for a codeword, and at the generator's roots it has the word's values.
 -- Assumes nothing.
 use mathlib.Core.Path.{_≡_, sym, ap, ap₂, _∙_}
-use mathlib.Core.List.{List, _++_}
+use mathlib.Core.List.{List, _++_, zipWith}
 use Prim.Native.Nat.{ℕ, _-_, _*_, _^_, _≤_, _<_}
 use native.Mathlib.Omega.{arith}
 use lib.Bits.{bitXor, xor-self, xor-zero-r}
@@ -10,7 +10,7 @@ use lib.Seq.{length-take-le, drop-at}
 use Rattle.ground.proofs.Xors.{xor-cancel}
 use Rattle.algebra.proofs.Powers.{pow}
 use Rattle.field.proofs.Elements.{GF512}
-use Rattle.field.proofs.Values.{a, value, plus, value-append, value-plus}
+use Rattle.field.proofs.Values.{a, value, value-append, value-plus}
 use Rattle.bits.specs.Words.{Bits, digits}
 use Rattle.bits.specs.Remainders.{remainder}
 use Rattle.bch.specs.Codes.{Codeword, encoded}
@@ -97,8 +97,8 @@ module _ {h : Held} (sound : Sound h) (w : List ℕ) (bits : Bits w) (long : len
 
   -- ---- values
 
-  tops-left : tops (h .n - h .k) (leftover h w) ≡ plus expected behind
-  tops-left = ap (tops (h .n - h .k)) left-is ∙ tops-xor (h .n - h .k) _ _ ∙ ap₂ plus tops-expected tops-behind
+  tops-left : tops (h .n - h .k) (leftover h w) ≡ zipWith bitXor expected behind
+  tops-left = ap (tops (h .n - h .k)) left-is ∙ tops-xor (h .n - h .k) _ _ ∙ ap₂ (zipWith bitXor) tops-expected tops-behind
 
   pub value-left : (j : ℕ) → 0 < j → j ≤ h .t * 2 → value (pow GF512 a j) (tops (h .n - h .k) (leftover h w)) ≡ value (pow GF512 a j) w
   unfolding expected rest information behind

@@ -3,10 +3,10 @@
 use mathlib.Core.Path.{_≡_, refl, sym, ap, ap₂, _∙_}
 use Prim.Native.Nat.{ℕ, zero, suc, _*_, _/_, _%_, _^_, _<_}
 use native.Mathlib.Nat.{mod-lt, zero-mul, one-mul, mod-mod, mod-eq-of-lt}
-use lib.Bits.{bitXor, xor-self, xor-zero-r, xor-shr, xor-mod, xor-lt}
+use lib.Bits.{bitXor, xor-shr, xor-mod, xor-lt}
 use lib.Dec.{T, eqb, lit<}
 use Rattle.ground.proofs.Tests.{all}
-use Rattle.ground.proofs.Xors.{by-digit, xor-double, xor-medial}
+use Rattle.ground.proofs.Xors.{by-digit, digit-left, xor-double, xor-medial}
 use Rattle.field.specs.Field.{degree, reduction, element, sum, shifted, times, product}
 use Rattle.field.proofs.Linear.{Additive, Additive₂, Additive₃, additive-0, basis₁, basis₂, basis₃}
 use Rattle.field.proofs.Sums.{sum-comm, sum-assoc, sum-self, sum-0}
@@ -15,13 +15,6 @@ below : (x : ℕ) → element x < 512
 below x = mod-lt x (lit< tt)
 
 -- ---- every part of the product is additive
-
-pub digit-left : (a b c : ℕ) → bitXor (a % 2) (b % 2) * c ≡ bitXor (a % 2 * c) (b % 2 * c)
-digit-left a b c =
-    by-digit (λ (x : ℕ). bitXor x (b % 2) * c ≡ bitXor (x * c) (b % 2 * c)) (sym (ap (λ (x : ℕ). bitXor x (b % 2 * c)) (zero-mul c)))
-    (by-digit (λ (y : ℕ). bitXor 1 y * c ≡ bitXor (1 * c) (y * c))
-    (sym (ap (bitXor (1 * c)) (zero-mul c) ∙ xor-zero-r (1 * c))) (zero-mul c ∙ sym (xor-self (1 * c))) b)
-    a
 
 digit-right : (a b c : ℕ) → a % 2 * bitXor b c ≡ bitXor (a % 2 * b) (a % 2 * c)
 digit-right a b c =

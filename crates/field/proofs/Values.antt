@@ -2,7 +2,7 @@
 -- Assumes nothing.
 use mathlib.Core.Path.{_≡_, refl, sym, ap, _∙_}
 use mathlib.Core.Logic.{_≢_}
-use mathlib.Core.List.{List, [], _∷_, _++_}
+use mathlib.Core.List.{List, [], _∷_, _++_, zipWith}
 use Prim.Native.Nat.{ℕ, zero, suc, _+_, _-_, _≤_, _<_}
 use native.Mathlib.Nat.{mod-eq-of-lt, sub-self}
 use native.Mathlib.Omega.{arith}
@@ -109,19 +109,14 @@ value-sum x (b ∷ bs) =
     low = sum-cong GF512 (length bs) _ _ (λ p l. ap (λ (u : Element). u ⊗ pow GF512 x p) (coefficient-low b bs p l))
 
 -- the sum of two polynomials of one length, coefficient by coefficient
-unfoldable pub plus : List ℕ → List ℕ → List ℕ
-plus [] cs = []
-plus (b ∷ bs) [] = []
-plus (b ∷ bs) (c ∷ cs) = bitXor b c ∷ plus bs cs
-
-length-plus : (bs cs : List ℕ) → length bs ≡ length cs → length (plus bs cs) ≡ length bs
-unfolding plus
+length-plus : (bs cs : List ℕ) → length bs ≡ length cs → length (zipWith bitXor bs cs) ≡ length bs
+unfolding zipWith
 length-plus [] cs e = refl
 length-plus (b ∷ bs) [] e = absurd (omega arith)
 length-plus (b ∷ bs) (c ∷ cs) e = ap suc (length-plus bs cs (omega arith))
 
-pub value-plus : (x : Element) (bs cs : List ℕ) → length bs ≡ length cs → value x (plus bs cs) ≡ value x bs ⊕ value x cs
-unfolding plus
+pub value-plus : (x : Element) (bs cs : List ℕ) → length bs ≡ length cs → value x (zipWith bitXor bs cs) ≡ value x bs ⊕ value x cs
+unfolding zipWith
 value-plus x [] [] e = simp (value-nil, ring)
 value-plus x [] (c ∷ cs) e = absurd (omega arith)
 value-plus x (b ∷ bs) [] e = absurd (omega arith)

@@ -1,5 +1,6 @@
 -- The laws of the crate, in the order in which they rest on each other.
 pub mod Checks
+pub mod Changes
 pub mod Coding
 pub mod Puttings
 pub mod Fields

@@ -2,10 +2,14 @@
 
 use super::grids::{Carried, Grid};
 use super::{bytes_of_a_frame, flip, lent, place, some_of, unknown, words, Faults};
-use crate::payload_a::{coded, frame_bytes, with_check, with_fields, POINTS};
+use crate::check::{Rule, EARLIER, HALF_CHANGED};
+use crate::payload_a::{coded, frame_bytes, with_check, with_check_by, with_fields, POINTS};
 use crate::rng::Rng;
 use crate::trial::Request;
 use crate::{bch, dqpsk, scrambler};
+
+/// The rules of the frame check that are not ours.
+const OTHER_RULES: [Rule; 3] = [EARLIER, HALF_CHANGED[0], HALF_CHANGED[1]];
 
 pub fn send(rng: &mut Rng) -> Request {
     let faults = Faults::aim(rng, &[1, 2, 3]);
@@ -68,15 +72,8 @@ fn wrong_length(rng: &mut Rng, right: usize) -> usize {
 
 /// The 784 bits of a frame, with a wrong check or hits in the two halves.
 fn damaged(rng: &mut Rng, faults: &Faults, mode: u8, length: usize) -> Vec<u8> {
-    let mut information = with_check(&bytes_of_a_frame(rng, length));
-    if faults.has(10) {
-        let count = rng.pick(&[1, 1, 2, 32, 200]);
-        match rng.below(3) {
-            0 => information[8 * length..].fill(0),
-            1 => information[8 * length + place(rng, 32)] ^= 1,
-            _ => flip(rng, &mut information, count),
-        }
-    }
+    let frame = bytes_of_a_frame(rng, length);
+    let information = if faults.has(10) { with_wrong_check(rng, &frame) } else { with_check(&frame) };
     let mut sent = coded(mode, &scrambler::scrambled(&information));
     if mode == 1 {
         let hopeless = some_of(rng, 2, faults.has(9));
@@ -93,6 +90,19 @@ fn damaged(rng: &mut Rng, faults: &Faults, mode: u8, length: usize) -> Vec<u8> {
         flip(rng, &mut sent, count);
     }
     sent
+}
+
+/// A frame's bits with a wrong check: all zero, hit in one bit, hit together with the frame, or by another rule.
+fn with_wrong_check(rng: &mut Rng, frame: &[u8]) -> Vec<u8> {
+    let mut information = with_check(frame);
+    let count = rng.pick(&[1, 1, 2, 32, 200]);
+    match rng.below(6) {
+        0 => information[8 * frame.len()..].fill(0),
+        1 => information[8 * frame.len() + place(rng, 32)] ^= 1,
+        2 => flip(rng, &mut information, count),
+        other => information = with_check_by(OTHER_RULES[other - 3], frame),
+    }
+    information
 }
 
 /// Where the 56 protected bits stand in the 840.
@@ -113,12 +123,41 @@ fn hit_fields(rng: &mut Rng, framed: &mut [u8]) {
 #[cfg(test)]
 mod tests {
     use super::*;
+    use crate::answer::Refusal;
+    use crate::{check, hostile, payload_a};
 
     #[test]
     fn protected_bits_are_those_around_the_segments() {
         let (zeros, ones) = (with_fields(&[0; 784]), with_fields(&[1; 784]));
         let same: Vec<usize> = (0..840).filter(|&place| zeros[place] == ones[place]).collect();
         assert_eq!(field_places(), same);
+    }
+
+    #[test]
+    fn wrong_checks_are_wrong() {
+        let mut rng = Rng::new(2);
+        for _ in 0..2_000 {
+            let frame = bytes_of_a_frame(&mut rng, 58);
+            let information = with_wrong_check(&mut rng, &frame);
+            let (message, sum) = information.split_at(464);
+            assert_ne!(check::of(message), sum);
+        }
+    }
+
+    #[test]
+    fn checks_by_every_other_rule_decide_answers_among_the_committed_requests() {
+        let mut decided = [0; OTHER_RULES.len()];
+        for index in 0..1_500 {
+            let Request::ReceiveA { mode, i, q, mut area } = hostile::request(1, index, &[1, 2, 3, 4, 5, 6]) else {
+                continue;
+            };
+            if payload_a::receive(mode, &i, &q, &mut area) == Err(Refusal::WrongCheck) {
+                for (count, &rule) in decided.iter_mut().zip(&OTHER_RULES) {
+                    *count += payload_a::receive_by(rule, mode, &i, &q, &mut area).is_ok() as u64;
+                }
+            }
+        }
+        assert!(decided.iter().all(|&count| count > 0), "{decided:?}");
     }
 
     #[test]

@@ -1,14 +1,15 @@
--- `payload_a::check::check_of` meets its contract: what is left of the message is taken in after what the register has taken.
+-- `payload_a::check::check_of` meets its contract: what is left of the message is taken in after what the register has taken, and the end is inverted.
 -- Assumes nothing.
-use mathlib.Core.Path.{_≡_, refl, _∙_}
+use mathlib.Core.Path.{_≡_, refl, ap, _∙_}
 use mathlib.Core.List.{List}
 use Prim.Native.Nat.{ℕ, _+_, _-_, _%_, _≤_, _<_}
 use native.Mathlib.Omega.{arith}
 use native.Mathlib.Numerals.{add-one}
+use lib.Bits.{bitXor}
 use lib.ListN.{length, getD, drop, drop-of-length-le}
 use lib.Seq.{drop-cons}
-use Rattle.bits.specs.Remainders.{step, remainder, remainderFrom}
-use Rattle.payload_a.specs.Check.{checkPolynomial, checkOf}
+use Rattle.bits.specs.Remainders.{step, remainderFrom}
+use Rattle.payload_a.specs.Check.{checkPolynomial, allOnes, checkOf}
 use Rattle.bits.specs.Words.{lowest}
 use borrow.Author.Needs.{needs}
 use Rattle.payload_a.proofs.check.check_of.Statement.{statement}
@@ -26,13 +27,13 @@ done x m i h = rw (drop-of-length-le m h)
 
 abbrev Inv-loop : tie.InvT-loop
 Inv-loop message register₀ i₀ register i =
-    (i ≤ length message) × (remainderFrom 32 checkPolynomial register (lowest (drop i message)) ≡ checkOf (lowest message))
+    (i ≤ length message)
+    × (remainderFrom 32 checkPolynomial register (lowest (drop i message)) ≡ remainderFrom 32 checkPolynomial allOnes (lowest message))
 
 abbrev μ-loop : tie.MeasureT-loop
 μ-loop message register₀ i₀ register i = length message - i
 
 loop-holds : tie.Need-loop-holds Inv-loop μ-loop
-unfolding checkOf remainder
 loop-holds c = (omega arith, refl)
 
 loop-again : tie.Need-loop-again Inv-loop μ-loop
@@ -42,10 +43,11 @@ loop-again c =
     (omega arith, turn (l .register) _ m (l .i) (omega arith) (c .take-in .ensures) ∙ l .inv .1)
 
 returns : tie.Need-returns Inv-loop μ-loop
+unfolding checkOf
 returns c =
     let l = c .before .loop in
     let m = c .before .before .before .args .message .now in
-    done (l .register) m (l .i) (omega arith) ∙ l .inv .1
+    ap (λ (x : ℕ). bitXor x allOnes) (done (l .register) m (l .i) (omega arith) ∙ l .inv .1)
 
 pub check-of-spec : {M : Type 1} → statement M
 check-of-spec =

@@ -1,0 +1,274 @@
+//! Drives a trial program across the two rules of the frame check: what it sends must be refused by a receiver of the
+//! earlier rule, and what a sender of the earlier rule made must be refused by it.
+//!
+//! Two processes for each batch: the first sends the frames, the second receives what the first one sent, and what the
+//! earlier rule sends.
+
+use crate::answer::{Answer, Counts, Refusal};
+use crate::check::{Rule, EARLIER, RULE};
+use crate::compare::{difference, run, Got, SHOWN};
+use crate::hostile::bytes_of_a_frame;
+use crate::payload_a::{frame_bytes, receive_by, send_by, POINTS};
+use crate::rng::Rng;
+use crate::trial::{levels, response, Request};
+use std::io::{self, Write};
+
+/// Frames of each mode in a batch.
+const BATCH: u64 = 250;
+
+/// What is compared for each frame.
+const COMPARED: [&str; 4] = [
+    "the points it sent, received here by the earlier rule",
+    "the points it sent, received here by the rule of request 6",
+    "points sent here by the earlier rule, received by it",
+    "the points it sent, received by it",
+];
+
+/// Clean points by the other rule, and by the same.
+const REFUSED: Answer = Err(Refusal::WrongCheck);
+const ACCEPTED: Answer = Ok(Counts { mended: 0, protected: 0 });
+
+/// I and Q.
+type Points = (Vec<i16>, Vec<i16>);
+
+/// A whole response, the points that were sent, a comparison that holds: or why not.
+type Reply = Result<Vec<u8>, String>;
+type Sent = Result<Points, String>;
+type Outcome = Result<(), String>;
+
+/// Compares `count` frames of each mode; writes differences and `N passed, M failed`. True if none failed.
+pub fn earlier(seed: u64, count: u64, command: &[String], to: &mut impl Write) -> io::Result<bool> {
+    drive(seed, count, |input| run(command, input), to)
+}
+
+/// The same with anything that answers requests in the place of a command.
+fn drive(seed: u64, count: u64, program: impl Fn(&[u8]) -> Got, to: &mut impl Write) -> io::Result<bool> {
+    let (mut passed, mut failed) = (0u64, 0u64);
+    for first in (0..count).step_by(BATCH as usize) {
+        let last = count.min(first.saturating_add(BATCH));
+        let frames: Vec<Frame> = (first..last).flat_map(|index| Frame::both(seed, index)).collect();
+        for (frame, outcomes) in frames.iter().zip(outcomes(&frames, &program)) {
+            for (what, outcome) in COMPARED.iter().zip(outcomes) {
+                let Err(text) = outcome else {
+                    passed += 1;
+                    continue;
+                };
+                failed += 1;
+                if failed <= SHOWN {
+                    writeln!(to, "frame {} of mode {} of seed {seed}: {what}:\n{text}", frame.index, frame.mode)?;
+                }
+            }
+        }
+    }
+    writeln!(to, "{passed} passed, {failed} failed")?;
+    Ok(failed == 0)
+}
+
+/// Whether each of the four comparisons of each frame holds, or what is different.
+fn outcomes(frames: &[Frame], program: impl Fn(&[u8]) -> Got) -> Vec<[Outcome; 4]> {
+    let sends: Vec<Request> = frames.iter().map(Frame::send).collect();
+    let sent: Vec<Sent> = replies(&sends, &program).into_iter().map(points_of).collect();
+    let both = frames.iter().zip(&sent);
+    let receives: Vec<Request> = both.clone().flat_map(|(frame, sent)| frame.receives(sent)).collect();
+    let received = replies(&receives, &program);
+    both.zip(received.chunks(2)).map(|((frame, sent), received)| frame.outcomes(sent, received)).collect()
+}
+
+/// The program's replies to these requests. What comes too much, and a crash, count against the last one.
+fn replies(requests: &[Request], program: impl Fn(&[u8]) -> Got) -> Vec<Reply> {
+    let got = program(&requests.iter().flat_map(Request::to_bytes).collect::<Vec<u8>>());
+    let mut rest = &got.output[..];
+    let mut replies: Vec<Reply> = Vec::new();
+    for request in requests {
+        // Its length does not depend on the answer.
+        let length = response(request, ACCEPTED).len();
+        let (reply, after) = rest.split_at(rest.len().min(length));
+        rest = after;
+        let came = reply.len();
+        let cut = || format!("  of {length} bytes, {came} came; trouble: {:?}", got.trouble);
+        replies.push(if came == length { Ok(reply.to_vec()) } else { Err(cut()) });
+    }
+    if let (Some(last @ Ok(_)), true) = (replies.last_mut(), !rest.is_empty() || got.trouble.is_some()) {
+        *last = Err(format!("  after it {} bytes too many; trouble: {:?}", rest.len(), got.trouble));
+    }
+    replies
+}
+
+/// The points of a reply to job 3 that is accepted with both lists as long as they were lent.
+fn points_of(reply: Reply) -> Sent {
+    let reply = reply?;
+    let (head, mut lists) = reply.split_at(9);
+    match (levels(&mut lists), levels(&mut lists)) {
+        (Some(i), Some(q)) if head == [0; 9] && i.len() == POINTS && q.len() == POINTS => Ok((i, q)),
+        _ => Err(format!("  no points came; its number and place: {head:?}")),
+    }
+}
+
+/// A frame, and an area to receive it into.
+struct Frame {
+    index: u64,
+    mode: u8,
+    bytes: Vec<u8>,
+    area: Vec<u8>,
+}
+
+impl Frame {
+    /// The frame of each mode that has this index.
+    fn both(seed: u64, index: u64) -> [Frame; 2] {
+        let mut rng = Rng::of_request(seed, index);
+        [0, 1].map(|mode| {
+            let length = frame_bytes(mode).expect("0 or 1");
+            Frame { index, mode, bytes: bytes_of_a_frame(&mut rng, length), area: rng.bytes(length + 3) }
+        })
+    }
+
+    fn send(&self) -> Request {
+        Request::SendA { mode: self.mode, frame: self.bytes.clone(), i: vec![9; POINTS], q: vec![-9; POINTS] }
+    }
+
+    /// To receive the points of the earlier rule, and those the program sent, none if none came.
+    fn receives(&self, sent: &Sent) -> [Request; 2] {
+        let sent = sent.clone().unwrap_or_default();
+        [self.by_earlier(), sent].map(|(i, q)| Request::ReceiveA { mode: self.mode, i, q, area: self.area.clone() })
+    }
+
+    /// The points of a sender of the earlier rule.
+    fn by_earlier(&self) -> Points {
+        let (mut i, mut q) = (vec![9; POINTS], vec![-9; POINTS]);
+        send_by(EARLIER, self.mode, &self.bytes, &mut i, &mut q).expect("a frame that fits");
+        (i, q)
+    }
+
+    /// The response of a receiver of this rule.
+    fn received(&self, rule: Rule, (i, q): &Points) -> Vec<u8> {
+        let mut area = self.area.clone();
+        let answer = receive_by(rule, self.mode, i, q, &mut area);
+        response(&self.after(area), answer)
+    }
+
+    /// In the order of `COMPARED`, from the points that the program sent and its replies to `receives`.
+    fn outcomes(&self, sent: &Sent, received: &[Reply]) -> [Outcome; 4] {
+        let here = |rule| sent.clone().map(|points| self.received(rule, &points));
+        let there = |number: usize| received[number].clone();
+        [
+            self.compared(REFUSED, here(EARLIER)),
+            self.compared(ACCEPTED, here(RULE)),
+            self.compared(REFUSED, there(0)),
+            self.compared(ACCEPTED, sent.clone().and(there(1))),
+        ]
+    }
+
+    /// Compares a receiver's reply with this answer and the area that goes with it: the frame, or as it was lent.
+    fn compared(&self, answer: Answer, reply: Reply) -> Outcome {
+        let written = if answer.is_ok() { self.bytes.len() } else { 0 };
+        let after = self.after([&self.bytes[..written], &self.area[written..]].concat());
+        let (expected, got) = (response(&after, answer), reply?);
+        if got == expected {
+            Ok(())
+        } else {
+            Err(difference(&after, &expected, &got))
+        }
+    }
+
+    /// A call to receive that was made and left this area: a response needs no more of it.
+    fn after(&self, area: Vec<u8>) -> Request {
+        Request::ReceiveA { mode: self.mode, i: vec![], q: vec![], area }
+    }
+}
+
+#[cfg(test)]
+mod tests {
+    use super::*;
+    use crate::check::HALF_CHANGED;
+    use crate::trial::read_request;
+
+    /// A program in the place of a command: it makes every call in this way.
+    fn program(call: impl Fn(&mut Request) -> Answer) -> impl Fn(&[u8]) -> Got {
+        move |mut input| {
+            let mut output = Vec::new();
+            while let Some(mut request) = read_request(&mut input) {
+                let answer = call(&mut request);
+                output.extend(response(&request, answer));
+            }
+            Got { output, trouble: None }
+        }
+    }
+
+    fn by(rule: Rule) -> impl Fn(&mut Request) -> Answer {
+        move |request| match request {
+            Request::SendA { mode, frame, i, q } => send_by(rule, *mode, frame, i, q),
+            Request::ReceiveA { mode, i, q, area } => receive_by(rule, *mode, i, q, area),
+            _ => unreachable!("only jobs 3 and 4"),
+        }
+    }
+
+    /// How many passed and failed of the comparisons with five frames of each mode.
+    fn counts(program: impl Fn(&[u8]) -> Got) -> (u64, u64) {
+        let mut text = Vec::new();
+        let all = drive(1, 5, program, &mut text).unwrap();
+        let text = String::from_utf8(text).unwrap();
+        let words: Vec<&str> = text.lines().last().unwrap().split(' ').collect();
+        assert_eq!((words[1], words[3], words.len()), ("passed,", "failed", 4), "{text}");
+        let (passed, failed) = (words[0].parse().unwrap(), words[2].parse().unwrap());
+        assert_eq!((passed + failed, failed == 0), (40, all), "{text}");
+        (passed, failed)
+    }
+
+    #[test]
+    fn the_rule_of_request_6_passes_and_no_other_does() {
+        assert_eq!(counts(program(Request::call)), (40, 0));
+        assert_eq!(counts(program(by(RULE))), (40, 0));
+        // Of the earlier rule only what it sends to itself comes through.
+        assert_eq!(counts(program(by(EARLIER))), (10, 30));
+        // Half-changed it agrees with neither, so that only our receiver misses its frames.
+        assert_eq!(HALF_CHANGED.map(|rule| counts(program(by(rule)))), [(30, 10); 2]);
+    }
+
+    #[test]
+    fn receivers_that_are_lax_or_harsh_or_write_before_they_refuse_fail() {
+        let lax = |request: &mut Request| request.call().or_else(|_| by(EARLIER)(request));
+        assert_eq!(counts(program(lax)), (30, 10));
+        let harsh = |request: &mut Request| if request.job() == 3 { request.call() } else { REFUSED };
+        assert_eq!(counts(program(harsh)), (30, 10));
+        let hasty = |request: &mut Request| {
+            let answer = request.call();
+            match request {
+                Request::ReceiveA { area, .. } if answer.is_err() => area[0] ^= 1,
+                _ => {}
+            }
+            answer
+        };
+        assert_eq!(counts(program(hasty)), (30, 10));
+    }
+
+    #[test]
+    fn a_program_that_answers_nothing_or_crashes_fails() {
+        assert_eq!(counts(|_| Got::default()), (0, 40));
+        let right = program(Request::call);
+        // Against the last frame: all but the one with points that were sent here.
+        assert_eq!(counts(|input| Got { trouble: Some("killed".to_string()), ..right(input) }), (37, 3));
+        assert_eq!(counts(|input| Got { output: [right(input).output, vec![0]].concat(), trouble: None }), (37, 3));
+        assert_eq!(counts(|_| Got { output: vec![255; 100_000], trouble: None }), (0, 40));
+        for cut in (1..30_000).step_by(97) {
+            let short = |input: &[u8]| {
+                let output = right(input).output;
+                Got { output: output[..output.len().saturating_sub(cut)].to_vec(), trouble: None }
+            };
+            assert!(counts(short).1 >= 3);
+        }
+    }
+
+    #[test]
+    fn a_program_that_is_not_there_fails() {
+        let mut text = Vec::new();
+        assert!(!earlier(1, 300, &["./no-such-program".to_string()], &mut text).unwrap());
+        assert!(text.ends_with(b"\n0 passed, 2400 failed\n"));
+    }
+
+    #[test]
+    fn nothing_to_compare_is_nothing_failed() {
+        let mut text = Vec::new();
+        assert!(drive(1, 0, |_| Got::default(), &mut text).unwrap());
+        assert_eq!(text, b"0 passed, 0 failed\n");
+    }
+}
