@@ -22,8 +22,8 @@ pub const RULE: Rule = Rule { start: !0, added: !0 };
 /// The earlier rule, document 01's: from zero, the result as it is.
 pub const EARLIER: Rule = Rule { start: 0, added: 0 };
 
-/// Neither of the two: from all ones but not inverted, and from zero but inverted.
-pub const HALF_CHANGED: [Rule; 2] = [Rule { start: !0, added: 0 }, Rule { start: 0, added: !0 }];
+/// The rules that are not ours: the earlier rule, and those with one of the two changes, the start or the inversion.
+pub const OTHERS: [Rule; 3] = [EARLIER, Rule { start: !0, added: 0 }, Rule { start: 0, added: !0 }];
 
 /// The check of these bits as a number.
 pub fn value(bits: &[u8]) -> u32 {
@@ -61,8 +61,10 @@ mod tests {
     use crate::poly;
     use crate::rng::Rng;
 
-    /// Both rules, and the two between them.
-    const RULES: [Rule; 4] = [RULE, EARLIER, HALF_CHANGED[0], HALF_CHANGED[1]];
+    /// Our rule and the others.
+    fn rules() -> impl Iterator<Item = Rule> {
+        [RULE].into_iter().chain(OTHERS)
+    }
 
     /// The check by long division: of the message times x^32 with the start added to its first 32 places, which a
     /// message of any length has. What is added to the result comes last.
@@ -94,7 +96,7 @@ mod tests {
     fn agrees_with_long_division() {
         for length in [1, 8, 31, 32, 33, 464, 752] {
             let bits: Vec<u8> = (0..length).map(|i| (i * (i + length) / 3 % 2) as u8).collect();
-            assert!(RULES.iter().all(|&rule| divided(rule, &bits) == of_by(rule, &bits)), "{length}");
+            assert!(rules().all(|rule| divided(rule, &bits) == of_by(rule, &bits)), "{length}");
             assert_eq!(divided(RULE, &bits), of(&bits));
         }
     }
@@ -104,8 +106,8 @@ mod tests {
         let bits = crate::bits::of_bytes(b"123456789");
         // CRC-32/BZIP2 is the rule of request 6; its catalogued value of these nine bytes is FC891918.
         assert_eq!(value(&bits), 0xFC89_1918);
-        // CRC-32/CKSUM is the earlier rule with every bit inverted; its catalogued value of them is 765E7680.
-        assert_eq!(value_by(EARLIER, &bits), !0x765E_7680);
+        // CRC-32/CKSUM is the last of the others, from zero and inverted; its catalogued value of them is 765E7680.
+        assert_eq!(value_by(OTHERS[2], &bits), 0x765E_7680);
     }
 
     #[test]
@@ -115,7 +117,7 @@ mod tests {
             for message in [vec![0; length], vec![1; length], rng.bits(length), rng.bits(length)] {
                 let mut changed = message.clone();
                 changed[length - 1] ^= 1;
-                for rule in RULES {
+                for rule in rules() {
                     assert_eq!(value_by(rule, &message) ^ value_by(rule, &changed), 0x04C1_1DB7);
                 }
             }
@@ -123,12 +125,12 @@ mod tests {
     }
 
     #[test]
-    fn the_sum_of_two_checks_is_the_earlier_check_of_the_sum() {
+    fn the_sum_of_two_checks_is_the_check_of_the_sum_by_the_earlier_rule() {
         let mut rng = Rng::new(2);
         for length in [0, 1, 8, 31, 32, 33, 464, 752] {
             for _ in 0..20 {
                 let (v, w) = (rng.bits(length), rng.bits(length));
-                for rule in RULES {
+                for rule in rules() {
                     assert_eq!(value_by(rule, &v) ^ value_by(rule, &w), value_by(EARLIER, &sum(&v, &w)));
                 }
             }
@@ -139,10 +141,10 @@ mod tests {
     fn the_rules_part_on_every_frame() {
         // By the sum of two checks, what holds for one message of a length holds for all of it.
         for length in [464, 752] {
-            let mut values = RULES.map(|rule| value_by(rule, &vec![0; length])).to_vec();
+            let mut values: Vec<u32> = rules().map(|rule| value_by(rule, &vec![0; length])).collect();
             values.sort();
             values.dedup();
-            assert_eq!(values.len(), RULES.len());
+            assert_eq!(values.len(), rules().count());
         }
     }
 }

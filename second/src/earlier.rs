@@ -1,20 +1,27 @@
 //! Drives a trial program across the two rules of the frame check: what it sends must be refused by a receiver of the
 //! earlier rule, and what a sender of the earlier rule made must be refused by it.
 //!
+//! Frames of mode 1 go clean, and again with 16 hits in each half, bits flipped between the code and DQPSK: so that
+//! what is mended is checked by the same rule.
+//!
 //! Two processes for each batch: the first sends the frames, the second receives what the first one sent, and what the
 //! earlier rule sends.
 
 use crate::answer::{Answer, Counts, Refusal};
 use crate::check::{Rule, EARLIER, RULE};
 use crate::compare::{difference, run, Got, SHOWN};
-use crate::hostile::bytes_of_a_frame;
-use crate::payload_a::{frame_bytes, receive_by, send_by, POINTS};
+use crate::hostile::{bytes_of_a_frame, flip};
+use crate::payload_a::{frame_bytes, framed, receive_by, send_by, with_fields, POINTS, SEGMENT};
 use crate::rng::Rng;
 use crate::trial::{levels, response, Request};
+use crate::{dqpsk, grid};
 use std::io::{self, Write};
 
 /// Frames of each mode in a batch.
 const BATCH: u64 = 250;
+
+/// Hits in each half of a frame that is hit: as many as code 3 mends.
+const HITS: usize = 16;
 
 /// What is compared for each frame.
 const COMPARED: [&str; 4] = [
@@ -24,9 +31,8 @@ const COMPARED: [&str; 4] = [
     "the points it sent, received by it",
 ];
 
-/// Clean points by the other rule, and by the same.
+/// The answer to points by the other rule.
 const REFUSED: Answer = Err(Refusal::WrongCheck);
-const ACCEPTED: Answer = Ok(Counts { mended: 0, protected: 0 });
 
 /// I and Q.
 type Points = (Vec<i16>, Vec<i16>);
@@ -46,7 +52,7 @@ fn drive(seed: u64, count: u64, program: impl Fn(&[u8]) -> Got, to: &mut impl Wr
     let (mut passed, mut failed) = (0u64, 0u64);
     for first in (0..count).step_by(BATCH as usize) {
         let last = count.min(first.saturating_add(BATCH));
-        let frames: Vec<Frame> = (first..last).flat_map(|index| Frame::both(seed, index)).collect();
+        let frames: Vec<Frame> = (first..last).flat_map(|index| Frame::all(seed, index)).collect();
         for (frame, outcomes) in frames.iter().zip(outcomes(&frames, &program)) {
             for (what, outcome) in COMPARED.iter().zip(outcomes) {
                 let Err(text) = outcome else {
@@ -55,7 +61,9 @@ fn drive(seed: u64, count: u64, program: impl Fn(&[u8]) -> Got, to: &mut impl Wr
                 };
                 failed += 1;
                 if failed <= SHOWN {
-                    writeln!(to, "frame {} of mode {} of seed {seed}: {what}:\n{text}", frame.index, frame.mode)?;
+                    let Frame { index, mode, hits, .. } = frame;
+                    let hits = hits.len();
+                    writeln!(to, "frame {index} of mode {mode} of seed {seed}, {hits} hits: {what}:\n{text}")?;
                 }
             }
         }
@@ -67,7 +75,8 @@ fn drive(seed: u64, count: u64, program: impl Fn(&[u8]) -> Got, to: &mut impl Wr
 /// Whether each of the four comparisons of each frame holds, or what is different.
 fn outcomes(frames: &[Frame], program: impl Fn(&[u8]) -> Got) -> Vec<[Outcome; 4]> {
     let sends: Vec<Request> = frames.iter().map(Frame::send).collect();
-    let sent: Vec<Sent> = replies(&sends, &program).into_iter().map(points_of).collect();
+    let replied = frames.iter().zip(replies(&sends, &program));
+    let sent: Vec<Sent> = replied.map(|(frame, reply)| Ok(frame.hit(points_of(reply)?))).collect();
     let both = frames.iter().zip(&sent);
     let receives: Vec<Request> = both.clone().flat_map(|(frame, sent)| frame.receives(sent)).collect();
     let received = replies(&receives, &program);
@@ -81,7 +90,7 @@ fn replies(requests: &[Request], program: impl Fn(&[u8]) -> Got) -> Vec<Reply> {
     let mut replies: Vec<Reply> = Vec::new();
     for request in requests {
         // Its length does not depend on the answer.
-        let length = response(request, ACCEPTED).len();
+        let length = response(request, REFUSED).len();
         let (reply, after) = rest.split_at(rest.len().min(length));
         rest = after;
         let came = reply.len();
@@ -104,26 +113,48 @@ fn points_of(reply: Reply) -> Sent {
     }
 }
 
-/// A frame, and an area to receive it into.
+/// The places of hits in both halves, among the 840 bits: none is a protected one.
+fn hits(rng: &mut Rng) -> Vec<usize> {
+    let mut halves = [0; 4 * SEGMENT];
+    halves.chunks_mut(2 * SEGMENT).for_each(|half| flip(rng, half, HITS));
+    let (hit, clean) = (with_fields(&halves), with_fields(&[0; 4 * SEGMENT]));
+    (0..hit.len()).filter(|&place| hit[place] != clean[place]).collect()
+}
+
+/// A frame, an area to receive it into, and which of its 840 bits are hit on the way.
+#[derive(Clone)]
 struct Frame {
     index: u64,
     mode: u8,
     bytes: Vec<u8>,
     area: Vec<u8>,
+    hits: Vec<usize>,
 }
 
 impl Frame {
-    /// The frame of each mode that has this index.
-    fn both(seed: u64, index: u64) -> [Frame; 2] {
+    /// The frame of each mode that has this index, and that of mode 1 once more with hits.
+    fn all(seed: u64, index: u64) -> [Frame; 3] {
         let mut rng = Rng::of_request(seed, index);
-        [0, 1].map(|mode| {
+        let [uncoded, coded] = [0, 1].map(|mode| {
             let length = frame_bytes(mode).expect("0 or 1");
-            Frame { index, mode, bytes: bytes_of_a_frame(&mut rng, length), area: rng.bytes(length + 3) }
-        })
+            let (bytes, area) = (bytes_of_a_frame(&mut rng, length), rng.bytes(length + 3));
+            Frame { index, mode, bytes, area, hits: vec![] }
+        });
+        let hit = Frame { hits: hits(&mut rng), ..coded.clone() };
+        [uncoded, coded, hit]
     }
 
     fn send(&self) -> Request {
         Request::SendA { mode: self.mode, frame: self.bytes.clone(), i: vec![9; POINTS], q: vec![-9; POINTS] }
+    }
+
+    /// The points after its hits. Points that carry no bits stay as they are: that is what they are refused for.
+    fn hit(&self, (mut i, mut q): Points) -> Points {
+        if let Ok(mut bits) = framed(&i, &q) {
+            self.hits.iter().for_each(|&place| bits[place] ^= 1);
+            grid::write(&dqpsk::points(&bits), &mut i, &mut q);
+        }
+        (i, q)
     }
 
     /// To receive the points of the earlier rule, and those the program sent, none if none came.
@@ -132,11 +163,11 @@ impl Frame {
         [self.by_earlier(), sent].map(|(i, q)| Request::ReceiveA { mode: self.mode, i, q, area: self.area.clone() })
     }
 
-    /// The points of a sender of the earlier rule.
+    /// The points of a sender of the earlier rule, hit.
     fn by_earlier(&self) -> Points {
         let (mut i, mut q) = (vec![9; POINTS], vec![-9; POINTS]);
         send_by(EARLIER, self.mode, &self.bytes, &mut i, &mut q).expect("a frame that fits");
-        (i, q)
+        self.hit((i, q))
     }
 
     /// The response of a receiver of this rule.
@@ -148,13 +179,14 @@ impl Frame {
 
     /// In the order of `COMPARED`, from the points that the program sent and its replies to `receives`.
     fn outcomes(&self, sent: &Sent, received: &[Reply]) -> [Outcome; 4] {
+        let accepted = Ok(Counts { mended: self.hits.len() as u64, protected: 0 });
         let here = |rule| sent.clone().map(|points| self.received(rule, &points));
         let there = |number: usize| received[number].clone();
         [
             self.compared(REFUSED, here(EARLIER)),
-            self.compared(ACCEPTED, here(RULE)),
+            self.compared(accepted, here(RULE)),
             self.compared(REFUSED, there(0)),
-            self.compared(ACCEPTED, sent.clone().and(there(1))),
+            self.compared(accepted, sent.clone().and(there(1))),
         ]
     }
 
@@ -179,7 +211,7 @@ impl Frame {
 #[cfg(test)]
 mod tests {
     use super::*;
-    use crate::check::HALF_CHANGED;
+    use crate::check::OTHERS;
     use crate::trial::read_request;
 
     /// A program in the place of a command: it makes every call in this way.
@@ -202,7 +234,7 @@ mod tests {
         }
     }
 
-    /// How many passed and failed of the comparisons with five frames of each mode.
+    /// How many passed and failed of the comparisons with five frames of each mode, 20 of mode 0 and 40 of mode 1.
     fn counts(program: impl Fn(&[u8]) -> Got) -> (u64, u64) {
         let mut text = Vec::new();
         let all = drive(1, 5, program, &mut text).unwrap();
@@ -210,26 +242,25 @@ mod tests {
         let words: Vec<&str> = text.lines().last().unwrap().split(' ').collect();
         assert_eq!((words[1], words[3], words.len()), ("passed,", "failed", 4), "{text}");
         let (passed, failed) = (words[0].parse().unwrap(), words[2].parse().unwrap());
-        assert_eq!((passed + failed, failed == 0), (40, all), "{text}");
+        assert_eq!((passed + failed, failed == 0), (60, all), "{text}");
         (passed, failed)
     }
 
     #[test]
     fn the_rule_of_request_6_passes_and_no_other_does() {
-        assert_eq!(counts(program(Request::call)), (40, 0));
-        assert_eq!(counts(program(by(RULE))), (40, 0));
-        // Of the earlier rule only what it sends to itself comes through.
-        assert_eq!(counts(program(by(EARLIER))), (10, 30));
-        // Half-changed it agrees with neither, so that only our receiver misses its frames.
-        assert_eq!(HALF_CHANGED.map(|rule| counts(program(by(rule)))), [(30, 10); 2]);
+        assert_eq!(counts(program(Request::call)), (60, 0));
+        assert_eq!(counts(program(by(RULE))), (60, 0));
+        // Of the earlier rule only what it sends to itself comes through. A rule with one of the two changes agrees
+        // with neither, so that only our receiver misses its frames.
+        assert_eq!(OTHERS.map(|rule| counts(program(by(rule)))), [(15, 45), (45, 15), (45, 15)]);
     }
 
     #[test]
     fn receivers_that_are_lax_or_harsh_or_write_before_they_refuse_fail() {
         let lax = |request: &mut Request| request.call().or_else(|_| by(EARLIER)(request));
-        assert_eq!(counts(program(lax)), (30, 10));
+        assert_eq!(counts(program(lax)), (45, 15));
         let harsh = |request: &mut Request| if request.job() == 3 { request.call() } else { REFUSED };
-        assert_eq!(counts(program(harsh)), (30, 10));
+        assert_eq!(counts(program(harsh)), (45, 15));
         let hasty = |request: &mut Request| {
             let answer = request.call();
             match request {
@@ -238,17 +269,50 @@ mod tests {
             }
             answer
         };
-        assert_eq!(counts(program(hasty)), (30, 10));
+        assert_eq!(counts(program(hasty)), (45, 15));
+    }
+
+    #[test]
+    fn receivers_that_are_wrong_about_mended_frames_alone_fail() {
+        let lax = |request: &mut Request| {
+            let mut other = request.clone();
+            match (request.call(), by(EARLIER)(&mut other)) {
+                (Err(_), Ok(counts)) if counts.mended > 0 => {
+                    *request = other;
+                    Ok(counts)
+                }
+                (answer, _) => answer,
+            }
+        };
+        assert_eq!(counts(program(lax)), (55, 5));
+        let uncounted = |request: &mut Request| request.call().map(|_| Counts::default());
+        assert_eq!(counts(program(uncounted)), (55, 5));
+    }
+
+    #[test]
+    fn senders_of_points_that_carry_no_bits_fail() {
+        // On an unavailable sub-carrier, and on an available one.
+        for index in [0, 1] {
+            let stray = |request: &mut Request| {
+                let answer = request.call();
+                match request {
+                    Request::SendA { i, .. } => i[index] = 7,
+                    _ => {}
+                }
+                answer
+            };
+            assert_eq!(counts(program(stray)), (15, 45));
+        }
     }
 
     #[test]
     fn a_program_that_answers_nothing_or_crashes_fails() {
-        assert_eq!(counts(|_| Got::default()), (0, 40));
+        assert_eq!(counts(|_| Got::default()), (0, 60));
         let right = program(Request::call);
         // Against the last frame: all but the one with points that were sent here.
-        assert_eq!(counts(|input| Got { trouble: Some("killed".to_string()), ..right(input) }), (37, 3));
-        assert_eq!(counts(|input| Got { output: [right(input).output, vec![0]].concat(), trouble: None }), (37, 3));
-        assert_eq!(counts(|_| Got { output: vec![255; 100_000], trouble: None }), (0, 40));
+        assert_eq!(counts(|input| Got { trouble: Some("killed".to_string()), ..right(input) }), (57, 3));
+        assert_eq!(counts(|input| Got { output: [right(input).output, vec![0]].concat(), trouble: None }), (57, 3));
+        assert_eq!(counts(|_| Got { output: vec![255; 100_000], trouble: None }), (0, 60));
         for cut in (1..30_000).step_by(97) {
             let short = |input: &[u8]| {
                 let output = right(input).output;
@@ -262,7 +326,7 @@ mod tests {
     fn a_program_that_is_not_there_fails() {
         let mut text = Vec::new();
         assert!(!earlier(1, 300, &["./no-such-program".to_string()], &mut text).unwrap());
-        assert!(text.ends_with(b"\n0 passed, 2400 failed\n"));
+        assert!(text.ends_with(b"\n0 passed, 3600 failed\n"));
     }
 
     #[test]

@@ -11,7 +11,7 @@ second requests SEED COUNT [JOBS]               writes requests for a trial prog
 second responses < REQUESTS                     writes the responses that are expected
 second compare SEED COUNT [JOBS] -- COMMAND..   drives a trial program, prints differences and 'N passed, M failed'
 second largest SEED -- COMMAND..                drives a trial program with the largest frames of Payload B, and one byte or block more
-second earlier SEED COUNT -- COMMAND..          drives a trial program against the earlier frame check: each must refuse what the other sends; 'N passed, M failed'
+second earlier SEED COUNT -- COMMAND..          drives a trial program against the earlier rule of the frame check: each must refuse what the other sends, clean and mended; 'N passed, M failed'
 second one SEED INDEX [JOBS]                    writes the single request of this index
 second tally SEED COUNT [JOBS]                  counts the refusal numbers of each job, their places, what came as far as the decoder, and kinds of stray points
 second astray SEED COUNT [CODES]                counts words with more than t hits that are refused, and that are mended into another codeword

@@ -54,8 +54,7 @@ pub fn send_by(rule: Rule, mode: u8, frame: &[u8], i: &mut [i16], q: &mut [i16])
 pub fn receive_by(rule: Rule, mode: u8, i: &[i16], q: &[i16], area: &mut [u8]) -> Answer {
     let length = frame_bytes(mode).ok_or(Refusal::Unknown)?;
     check(i.len() >= POINTS && q.len() >= POINTS && area.len() >= length, Refusal::NoRoom)?;
-    grid::check_unavailable(SYMBOLS, i, q)?;
-    let (received, protected) = without_fields(&dqpsk::bits(&legal_points(i, q)?));
+    let (received, protected) = without_fields(&framed(i, q)?);
     let (information, mended) = decoded(mode, &received)?;
     let plain = scrambler::scrambled(&information);
     let (message, sum) = plain.split_at(8 * length);
@@ -120,6 +119,12 @@ fn without_fields(framed: &[u8]) -> (Vec<u8>, u64) {
     (segments, differing as u64)
 }
 
+/// Checks 7 and 8, and the 840 bits of the points.
+pub fn framed(i: &[i16], q: &[i16]) -> Result<Vec<u8>, Refusal> {
+    grid::check_unavailable(SYMBOLS, i, q)?;
+    Ok(dqpsk::bits(&legal_points(i, q)?))
+}
+
 /// Check 8, and the 420 points in s order.
 fn legal_points(i: &[i16], q: &[i16]) -> Result<Vec<Point>, Refusal> {
     grid::read(SYMBOLS, i, q)
@@ -130,7 +135,6 @@ fn legal_points(i: &[i16], q: &[i16]) -> Result<Vec<Point>, Refusal> {
 #[cfg(test)]
 mod tests {
     use super::*;
-    use crate::check::EARLIER;
     use crate::rng::Rng;
 
     fn sent(mode: u8, frame: &[u8]) -> (Vec<i16>, Vec<i16>) {
@@ -159,24 +163,6 @@ mod tests {
             let mut area = vec![0xEE; frame.len() + 2];
             assert_eq!(receive(mode, &i, &q, &mut area), Ok(Counts::default()));
             assert_eq!((&area[..frame.len()], &area[frame.len()..]), (&frame[..], &[0xEE; 2][..]));
-        }
-    }
-
-    #[test]
-    fn what_one_rule_sends_a_receiver_of_the_other_refuses_with_10() {
-        let mut rng = Rng::new(10);
-        for round in 0..200 {
-            let mode = round % 2;
-            let frame = rng.bytes(frame_bytes(mode).unwrap());
-            for (theirs, ours) in [(RULE, EARLIER), (EARLIER, RULE)] {
-                let (mut i, mut q) = (vec![77; POINTS], vec![77; POINTS]);
-                send_by(theirs, mode, &frame, &mut i, &mut q).unwrap();
-                let mut area = vec![0xEE; frame.len() + 2];
-                assert_eq!(receive_by(ours, mode, &i, &q, &mut area), Err(Refusal::WrongCheck));
-                assert_eq!(area, vec![0xEE; frame.len() + 2]);
-                assert_eq!(receive_by(theirs, mode, &i, &q, &mut area), Ok(Counts::default()));
-                assert_eq!((&area[..frame.len()], &area[frame.len()..]), (&frame[..], &[0xEE; 2][..]));
-            }
         }
     }
 

@@ -124,15 +124,15 @@ struct ortkaveq_answer ortkaveq_decode(uint8_t code, const uint8_t *word, size_t
 /* ---- Payload A: modes 0 and 1, two OFDM symbols of DQPSK */
 
 /*
- * Sends a frame, with the frame check behind it, whose register starts at all ones, and whose result is inverted: a receiver that has another rule refuses
- * every frame.
+ * Sends a frame, with the frame check behind it: its register starts at all ones, and its result is inverted. A receiver of the earlier rule (zero, not
+ * inverted) refuses it with 10.
  * Reads: frame, 94 bytes in mode 0 and 58 in mode 1, exactly. Writes: the first 512 elements of i and of q.
  * Refuses with 1, 2, 3. A refusal writes nothing; elements beyond the 512 keep what they held.
  */
 struct ortkaveq_answer ortkaveq_send_a(uint8_t mode, const uint8_t *frame, size_t frame_length, int16_t *i, size_t i_length, int16_t *q, size_t q_length);
 
 /*
- * Receives a frame.
+ * Receives a frame. One that was sent by the earlier rule of the frame check is refused with 10.
  * Reads: the first 512 elements of i and of q. Writes: the first 94 (mode 0) or 58 (mode 1) bytes of area, the frame.
  * Refuses with 1, 3, 7, 8, 9, 10. A refusal writes nothing; bytes of area beyond the frame keep what they held.
  */

@@ -10,7 +10,7 @@ use Rattle.ground.proofs.Xors.{by-digit}
 use Rattle.algebra.proofs.Fields.{Field2, ring, add-self, add-zero, zero-add, add-comm, add-of-eq}
 use Rattle.algebra.proofs.Powers.{pow, pow-zero as pow-zero', pow-suc as pow-suc'}
 use Rattle.field.proofs.Elements.{GF512, element-of, of-0}
-use Rattle.field.proofs.Values.{a, value, value-nil, value-cons, value-append, value-plus}
+use Rattle.field.proofs.Values.{a, value, value-nil, value-cons, value-append, value-added}
 use Rattle.bits.specs.Words.{Bits, digits}
 use Rattle.bits.specs.Remainders.{reduced, step, remainderFrom, remainder}
 use Rattle.bch.specs.Codes.{Code, encoded, Codeword}
@@ -39,7 +39,7 @@ module _ (x : Element) where
   poly-suc r n = rw (value-cons, length-digits r n)
 
   poly-xor : (r m n : ℕ) → poly r (bitXor m n) ≡ poly r m ⊕ poly r n
-  poly-xor r m n = rw (digits-xor r m n, value-plus x _ _ (length-digits r m ∙ sym (length-digits r n)))
+  poly-xor r m n = rw (digits-xor r m n, value-added x _ _ (length-digits r m ∙ sym (length-digits r n)))
 
   poly-zero : (r : ℕ) → poly r 0 ≡ 𝟘
   poly-zero r = poly-xor r 0 0 ∙ add-self GF512 (poly r 0)

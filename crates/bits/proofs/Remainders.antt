@@ -105,9 +105,9 @@ module _ (r g : ℕ) where
   reduced-xor u v =
       rw (digit-xor r u v, digit-left (u / 2 ^ r) (v / 2 ^ r) g) (xor-medial (u / 2 ^ r % 2 * g) (v / 2 ^ r % 2 * g) u v)
 
-  step-sum : (x y b c : ℕ) → step r g (bitXor x y) (bitXor b c) ≡ bitXor (step r g x b) (step r g y c)
+  step-xor : (x y b c : ℕ) → step r g (bitXor x y) (bitXor b c) ≡ bitXor (step r g x b) (step r g y c)
   unfolding step
-  step-sum x y b c =
+  step-xor x y b c =
       let e : bitXor (bitXor b c * 2 ^ r) (bitXor x y * 2) ≡ bitXor (bitXor (b * 2 ^ r) (x * 2)) (bitXor (c * 2 ^ r) (y * 2))
       = rw (← (xor-scaled r b c), xor-double x y) (xor-medial (b * 2 ^ r) (c * 2 ^ r) (x * 2) (y * 2)) in
       rw e (reduced-xor (bitXor (b * 2 ^ r) (x * 2)) (bitXor (c * 2 ^ r) (y * 2)))
@@ -119,7 +119,7 @@ module _ (r g : ℕ) where
   from-sum [] (c ∷ w) x y e = absurd (omega arith)
   from-sum (b ∷ v) [] x y e = absurd (omega arith)
   from-sum (b ∷ v) (c ∷ w) x y e =
-      ap (λ (z : ℕ). remainderFrom r g z (zipWith bitXor v w)) (step-sum x y b c) ∙ from-sum v w (step r g x b) (step r g y c) (omega arith)
+      ap (λ (z : ℕ). remainderFrom r g z (zipWith bitXor v w)) (step-xor x y b c) ∙ from-sum v w (step r g x b) (step r g y c) (omega arith)
 
 -- ---- k places higher
 

@@ -1,5 +1,5 @@
--- The remainder of a word times x^r by a polynomial g of degree r (document 01, "The three codes" and "Scrambler and frame check").
--- The word's bits are coefficients, highest power first. A polynomial is the number of its binary digits.
+-- A register that takes in a word by a polynomial g of degree r: from zero it ends with the remainder of the word times x^r by g (document 01, "The three
+-- codes"). The frame check has this register too. The word's bits are coefficients, highest power first. A polynomial is the number of its binary digits.
 -- Assumes nothing.
 use mathlib.Core.List.{List, [], _∷_}
 use Prim.Native.Nat.{ℕ, _*_, _/_, _%_, _^_}
@@ -18,6 +18,6 @@ unfoldable pub remainderFrom : ℕ → ℕ → ℕ → List ℕ → ℕ
 remainderFrom r g register [] = register
 remainderFrom r g register (b ∷ bs) = remainderFrom r g (step r g register b) bs
 
--- from zero it ends with the remainder
+-- from zero
 unfoldable pub remainder : ℕ → ℕ → List ℕ → ℕ
 remainder r g bs = remainderFrom r g 0 bs

@@ -10,7 +10,7 @@ use lib.Seq.{length-take-le, drop-at}
 use Rattle.ground.proofs.Xors.{xor-cancel}
 use Rattle.algebra.proofs.Powers.{pow}
 use Rattle.field.proofs.Elements.{GF512}
-use Rattle.field.proofs.Values.{a, value, value-append, value-plus}
+use Rattle.field.proofs.Values.{a, value, value-append, value-added}
 use Rattle.bits.specs.Words.{Bits, digits}
 use Rattle.bits.specs.Remainders.{remainder}
 use Rattle.bch.specs.Codes.{Codeword, encoded}
@@ -104,7 +104,7 @@ module _ {h : Held} (sound : Sound h) (w : List ℕ) (bits : Bits w) (long : len
   unfolding expected rest information behind
   value-left j low high =
       let x = pow GF512 a j in
-      ap (value x) tops-left ∙ value-plus x expected behind (length-digits (h .n - h .k) rest ∙ sym behind-long)
+      ap (value x) tops-left ∙ value-added x expected behind (length-digits (h .n - h .k) rest ∙ sym behind-long)
       ∙ ap (λ u. GF512 .add u (value x behind))
       (sym (value-remainder x (h .n - h .k) (codeOf h .generator) (sound .rooted .degree)
       (sound .rooted .roots j low high) information (bits-take (h .k) w bits)))

@@ -6,7 +6,7 @@ use native.Mathlib.Nat.{mod-lt, zero-mul, one-mul, mod-mod, mod-eq-of-lt}
 use lib.Bits.{bitXor, xor-shr, xor-mod, xor-lt}
 use lib.Dec.{T, eqb, lit<}
 use Rattle.ground.proofs.Tests.{all}
-use Rattle.ground.proofs.Xors.{by-digit, digit-left, xor-double, xor-medial}
+use Rattle.ground.proofs.Xors.{by-digit, digit-left, digit-right, xor-double, xor-medial}
 use Rattle.field.specs.Field.{degree, reduction, element, sum, shifted, times, product}
 use Rattle.field.proofs.Linear.{Additive, Additive₂, Additive₃, additive-0, basis₁, basis₂, basis₃}
 use Rattle.field.proofs.Sums.{sum-comm, sum-assoc, sum-self, sum-0}
@@ -15,11 +15,6 @@ below : (x : ℕ) → element x < 512
 below x = mod-lt x (lit< tt)
 
 -- ---- every part of the product is additive
-
-digit-right : (a b c : ℕ) → a % 2 * bitXor b c ≡ bitXor (a % 2 * b) (a % 2 * c)
-digit-right a b c =
-    by-digit (λ (x : ℕ). x * bitXor b c ≡ bitXor (x * b) (x * c)) (zero-mul (bitXor b c) ∙ sym (ap₂ bitXor (zero-mul b) (zero-mul c)))
-    (one-mul (bitXor b c) ∙ sym (ap₂ bitXor (one-mul b) (one-mul c))) a
 
 shifted-add : Additive shifted
 unfolding shifted

@@ -8,6 +8,7 @@ use native.Mathlib.Nat.{mod-eq-of-lt, sub-self}
 use native.Mathlib.Omega.{arith}
 use lib.Bits.{bitXor}
 use lib.ListN.{length, getD, length-append}
+use Rattle.ground.proofs.Zips.{length-zipWith}
 use Rattle.algebra.proofs.Fields.{Field2, ring, mul-one, one-mul, mul-comm, mul-assoc}
 use Rattle.algebra.proofs.Sums.{sum, sum-nil, sum-suc, sum-cong}
 use Rattle.algebra.proofs.Places.{Distinct}
@@ -108,18 +109,12 @@ value-sum x (b ∷ bs) =
         ≡ sum GF512 (length bs) (λ p. coefficient bs p ⊗ pow GF512 x p)
     low = sum-cong GF512 (length bs) _ _ (λ p l. ap (λ (u : Element). u ⊗ pow GF512 x p) (coefficient-low b bs p l))
 
--- the sum of two polynomials of one length, coefficient by coefficient
-length-plus : (bs cs : List ℕ) → length bs ≡ length cs → length (zipWith bitXor bs cs) ≡ length bs
+-- two polynomials of one length, added coefficient by coefficient
+pub value-added : (x : Element) (bs cs : List ℕ) → length bs ≡ length cs → value x (zipWith bitXor bs cs) ≡ value x bs ⊕ value x cs
 unfolding zipWith
-length-plus [] cs e = refl
-length-plus (b ∷ bs) [] e = absurd (omega arith)
-length-plus (b ∷ bs) (c ∷ cs) e = ap suc (length-plus bs cs (omega arith))
-
-pub value-plus : (x : Element) (bs cs : List ℕ) → length bs ≡ length cs → value x (zipWith bitXor bs cs) ≡ value x bs ⊕ value x cs
-unfolding zipWith
-value-plus x [] [] e = simp (value-nil, ring)
-value-plus x [] (c ∷ cs) e = absurd (omega arith)
-value-plus x (b ∷ bs) [] e = absurd (omega arith)
-value-plus x (b ∷ bs) (c ∷ cs) e =
+value-added x [] [] e = simp (value-nil, ring)
+value-added x [] (c ∷ cs) e = absurd (omega arith)
+value-added x (b ∷ bs) [] e = absurd (omega arith)
+value-added x (b ∷ bs) (c ∷ cs) e =
     let l : length bs ≡ length cs = omega arith in
-    simp (value-cons, value-plus x bs cs l, length-plus bs cs l, of-xor, l, ring)
+    simp (value-cons, value-added x bs cs l, length-zipWith bitXor bs cs l, of-xor, l, ring)

@@ -2,7 +2,7 @@
 -- Assumes nothing.
 use mathlib.Core.Path.{_≡_, refl, sym, ap, ap₂, _∙_}
 use Prim.Native.Nat.{ℕ, zero, suc, _+_, _*_, _/_, _%_, _<_}
-use native.Mathlib.Nat.{mod-lt, zero-lt-suc, le-of-suc-le-suc, not-suc-le-zero, add-zero, zero-mul, div-add-mod'}
+use native.Mathlib.Nat.{mod-lt, zero-lt-suc, le-of-suc-le-suc, not-suc-le-zero, add-zero, zero-mul, one-mul, div-add-mod'}
 use lib.Arith.{bin-ind}
 use lib.Bits.{bitXor, differ, xor-step, xor-comm, xor-self, xor-zero-l, xor-zero-r, xor-shr, xor-mod, xor-block, xor-shifted}
 
@@ -15,13 +15,18 @@ by-digit P p q n = go (n % 2) (mod-lt n (zero-lt-suc 1))
     go (suc zero) h = q
     go (suc (suc m)) h = absurd (not-suc-le-zero (le-of-suc-le-suc (le-of-suc-le-suc h)))
 
--- a digit times a number is additive in the digit
+-- a digit times a number is additive, in the digit and in the number
 pub digit-left : (a b c : ℕ) → bitXor (a % 2) (b % 2) * c ≡ bitXor (a % 2 * c) (b % 2 * c)
 digit-left a b c =
     by-digit (λ (x : ℕ). bitXor x (b % 2) * c ≡ bitXor (x * c) (b % 2 * c)) (sym (ap (λ (x : ℕ). bitXor x (b % 2 * c)) (zero-mul c)))
     (by-digit (λ (y : ℕ). bitXor 1 y * c ≡ bitXor (1 * c) (y * c))
     (sym (ap (bitXor (1 * c)) (zero-mul c) ∙ xor-zero-r (1 * c))) (zero-mul c ∙ sym (xor-self (1 * c))) b)
     a
+
+pub digit-right : (a b c : ℕ) → a % 2 * bitXor b c ≡ bitXor (a % 2 * b) (a % 2 * c)
+digit-right a b c =
+    by-digit (λ (x : ℕ). x * bitXor b c ≡ bitXor (x * b) (x * c)) (zero-mul (bitXor b c) ∙ sym (ap₂ bitXor (zero-mul b) (zero-mul c)))
+    (one-mul (bitXor b c) ∙ sym (ap₂ bitXor (one-mul b) (one-mul c))) a
 
 digit-assoc : (a b c : ℕ) → differ (bitXor (a % 2) (b % 2)) (c % 2) ≡ differ (a % 2) (bitXor (b % 2) (c % 2))
 digit-assoc a b c =

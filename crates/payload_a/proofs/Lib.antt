@@ -1,6 +1,6 @@
 -- The laws of the crate, in the order in which they rest on each other.
 pub mod Checks
-pub mod Changes
+pub mod Sums
 pub mod Coding
 pub mod Puttings
 pub mod Fields
@@ -10,3 +10,4 @@ pub mod VerdictsA
 pub mod UniqueA
 pub mod OnceA
 pub mod TripsA
+pub mod Rules

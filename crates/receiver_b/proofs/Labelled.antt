@@ -7,6 +7,7 @@ use native.Mathlib.Omega.{arith}
 use lib.IntN.{ℤ}
 use lib.ListN.{length, getD, take}
 use lib.Seq.{take-suc, length-take-le}
+use Rattle.ground.proofs.Zips.{length-zipWith}
 use Rattle.bits.specs.Words.{Bits, digits}
 use Rattle.bits.proofs.Digits.{bits-append, digits-bits}
 use Rattle.points.specs.declared.Point.{Point}
@@ -54,12 +55,6 @@ pub label-read : {cells quadrants scheme : List ℕ} → Lent cells quadrants sc
     → r ≡ labelIn cells quadrants n x y → r ≡ labelOf n i q
 label-read lent n x y i q ei eq e = rw (lent .cells-are, lent .quadrants-are, ei, eq) at e ∙ label-ours n i q
 
-length-labels : (ns : List ℕ) (ps : List Point) → length ps ≡ length ns → length (zipWith pointLabel ns ps) ≡ length ns
-unfolding zipWith
-length-labels [] ps e = refl
-length-labels (n ∷ ns) [] e = absurd (omega arith)
-length-labels (n ∷ ns) (p ∷ ps) e = ap suc (length-labels ns ps (omega arith))
-
 label-at : (ns : List ℕ) (ps : List Point) (i : ℕ) → i < length ns → i < length ps
     → getD (zipWith pointLabel ns ps) i Stray ≡ pointLabel (getD ns i 0) (getD ps i Nothing)
 unfolding zipWith
@@ -74,7 +69,7 @@ module _ {scheme : List ℕ} (good : Scheme scheme) (m : ℕ) (is qs : List ℤ)
   labels = zipWith pointLabel (repeated m scheme) (received m is qs)
 
   pub labels-long : length labels ≡ 210 * m
-  labels-long = length-labels _ _ (as-many scheme (good .long) m is qs) ∙ repeated-long scheme (good .long) m
+  labels-long = length-zipWith pointLabel _ _ (sym (as-many scheme (good .long) m is qs)) ∙ repeated-long scheme (good .long) m
 
   pub labels-at : (place : ℕ) → place < 210 * m → getD labels place Stray ≡ pointLabel (getD scheme (place % 210) 0) (pointAt is qs (indexOf place))
   labels-at place l =

@@ -2,14 +2,11 @@
 
 use super::grids::{Carried, Grid};
 use super::{bytes_of_a_frame, flip, lent, place, some_of, unknown, words, Faults};
-use crate::check::{Rule, EARLIER, HALF_CHANGED};
+use crate::check::OTHERS;
 use crate::payload_a::{coded, frame_bytes, with_check, with_check_by, with_fields, POINTS};
 use crate::rng::Rng;
 use crate::trial::Request;
 use crate::{bch, dqpsk, scrambler};
-
-/// The rules of the frame check that are not ours.
-const OTHER_RULES: [Rule; 3] = [EARLIER, HALF_CHANGED[0], HALF_CHANGED[1]];
 
 pub fn send(rng: &mut Rng) -> Request {
     let faults = Faults::aim(rng, &[1, 2, 3]);
@@ -100,7 +97,7 @@ fn with_wrong_check(rng: &mut Rng, frame: &[u8]) -> Vec<u8> {
         0 => information[8 * frame.len()..].fill(0),
         1 => information[8 * frame.len() + place(rng, 32)] ^= 1,
         2 => flip(rng, &mut information, count),
-        other => information = with_check_by(OTHER_RULES[other - 3], frame),
+        other => information = with_check_by(OTHERS[other - 3], frame),
     }
     information
 }
@@ -146,13 +143,13 @@ mod tests {
 
     #[test]
     fn checks_by_every_other_rule_decide_answers_among_the_committed_requests() {
-        let mut decided = [0; OTHER_RULES.len()];
+        let mut decided = [0; OTHERS.len()];
         for index in 0..1_500 {
             let Request::ReceiveA { mode, i, q, mut area } = hostile::request(1, index, &[1, 2, 3, 4, 5, 6]) else {
                 continue;
             };
             if payload_a::receive(mode, &i, &q, &mut area) == Err(Refusal::WrongCheck) {
-                for (count, &rule) in decided.iter_mut().zip(&OTHER_RULES) {
+                for (count, &rule) in decided.iter_mut().zip(&OTHERS) {
                     *count += payload_a::receive_by(rule, mode, &i, &q, &mut area).is_ok() as u64;
                 }
             }
