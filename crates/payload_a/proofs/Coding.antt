@@ -7,14 +7,14 @@ use native.Mathlib.Omega.{arith}
 use borrow.Author.Tests.{ne-eqb}
 use lib.ListN.{length, take, drop, drop-of-length-le, length-append, length-drop, take-append-drop}
 use lib.Seq.{take-at, take-all, drop-at, length-take-le}
-use Rattle.bits.specs.Words.{Bits, differ}
+use Rattle.bits.specs.Words.{Bits, digits, differ}
 use Rattle.bch.specs.Codes.{code3, encoded, Codeword}
-use Rattle.bits.proofs.Digits.{bits-take, bits-drop, bits-append}
+use Rattle.bits.proofs.Digits.{bits-take, bits-drop, bits-append, digits-bits, length-digits}
 use Rattle.bits.proofs.Distances.{differ-zero}
 use Rattle.bch.proofs.Mendings.{encoding-codeword}
 use Rattle.bits.specs.Bytes.{Bytes, bitsOf}
 use Rattle.payload.specs.Scrambler.{start, scrambled}
-use Rattle.payload_a.specs.Check.{withCheck}
+use Rattle.payload_a.specs.Check.{checkOf, withCheck}
 use Rattle.payload_a.specs.CodedA.{bytesA, information, blocksA, codedA}
 use Rattle.payload.specs.Wire.{blockAt, Fits}
 use Rattle.payload.proofs.Wires.{parts-same, Lawful, plain, coded}
@@ -22,19 +22,30 @@ use Rattle.bch.proofs.Codewords.{information-of}
 use Rattle.payload_a.specs.Segments.{rowBits}
 use Rattle.payload_a.specs.PromiseA.{wireA}
 use Rattle.bits.proofs.Octets.{length-bitsOf, bits-bitsOf, bitsOf-inj}
-use Rattle.payload_a.proofs.Checks.{length-with-check, bits-with-check, take-with-check}
+use Rattle.payload_a.proofs.Checks.{take-with-check}
 use Rattle.payload.proofs.Scrambling.{length-scrambled, bits-scrambled, scrambled-inj}
 
 -- ---- a frame and its check, scrambled
 
+-- a frame with 32 digits behind it, whatever they say
+module _ (frame : List ℕ) (x : ℕ) where
+  pub bits-behind : Bits (scrambled (bitsOf frame ++ digits 32 x))
+  unfolding scrambled
+  bits-behind = bits-scrambled start (bitsOf frame ++ digits 32 x) (bits-append (bitsOf frame) (digits 32 x) (bits-bitsOf frame) (digits-bits 32 x))
+
+  pub length-behind : length (scrambled (bitsOf frame ++ digits 32 x)) ≡ 8 * length frame + 32
+  unfolding scrambled
+  length-behind =
+      length-scrambled start (bitsOf frame ++ digits 32 x) ∙ length-append (bitsOf frame) (digits 32 x)
+      ∙ ap₂ _+_ (length-bitsOf frame) (length-digits 32 x)
+
 pub bits-information : (frame : List ℕ) → Bits (information frame)
-unfolding scrambled
-bits-information frame = bits-scrambled start (withCheck (bitsOf frame)) (bits-with-check (bitsOf frame) (bits-bitsOf frame))
+unfolding withCheck
+bits-information frame = bits-behind frame (checkOf (bitsOf frame))
 
 pub length-information : (frame : List ℕ) → length (information frame) ≡ 8 * length frame + 32
-unfolding scrambled
-length-information frame =
-    length-scrambled start (withCheck (bitsOf frame)) ∙ length-with-check (bitsOf frame) ∙ ap (λ (n : ℕ). n + 32) (length-bitsOf frame)
+unfolding withCheck
+length-information frame = length-behind frame (checkOf (bitsOf frame))
 
 -- ---- blocks of 784 bits
 

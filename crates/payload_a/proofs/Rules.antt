@@ -12,7 +12,7 @@ use borrow.Author.Tests.{ne-eqb}
 use lib.Bits.{bitXor, xor-self, xor-comm, xor-mod}
 use lib.Dec.{eqb, lit<}
 use lib.IntN.{ℤ}
-use lib.ListN.{length, replicate, take, drop, length-append}
+use lib.ListN.{length, replicate, take, drop}
 use lib.Seq.{take-at, drop-at}
 use Rattle.ground.proofs.Xors.{xor-cancel}
 use Rattle.answers.specs.Answers.{refused, ofReceivedA}
@@ -23,16 +23,15 @@ use Rattle.answers.specs.declared.Refusal.the-variants.{WrongCheck}
 use Rattle.bits.specs.Words.{Bits, digits}
 use Rattle.bits.specs.Bytes.{bitsOf}
 use Rattle.bits.specs.Remainders.{reduced, step, remainderFrom}
-use Rattle.bits.proofs.Digits.{bits-append, digits-bits, length-digits}
 use Rattle.bits.proofs.Numbers.{digits-same}
-use Rattle.bits.proofs.Octets.{length-bitsOf, bits-bitsOf}
+use Rattle.bits.proofs.Octets.{length-bitsOf}
 use Rattle.bch.specs.Codes.{code3, Codeword}
 use Rattle.bch.proofs.Mendings.{only-codeword}
 use Rattle.points.specs.Dqpsk.{dibits}
 use Rattle.symbols.specs.Grids.{received}
 use Rattle.payload.specs.Scrambler.{start, scrambled}
 use Rattle.payload.specs.Wire.{Wire, blockAt, Fits, Mendable}
-use Rattle.payload.proofs.Scrambling.{length-scrambled, bits-scrambled, scrambled-inj}
+use Rattle.payload.proofs.Scrambling.{scrambled-inj}
 use Rattle.payload.proofs.Wires.{parts-same, block-long, fits-mendable}
 use Rattle.payload_a.specs.Check.{checkOf, withCheck}
 use Rattle.payload_a.specs.Segments.{rowBits, carried}
@@ -40,7 +39,7 @@ use Rattle.payload_a.specs.CodedA.{bytesA, information, blocksA, codedA}
 use Rattle.payload_a.specs.PromiseA.{wireA, Receives, ReceivingA}
 use Rattle.payload_a.proofs.Sums.{earlierCheck, check-earlier}
 use Rattle.payload_a.proofs.Checks.{take-with-check, drop-with-check}
-use Rattle.payload_a.proofs.Coding.{bits-information, coded-blocks, coded-information, fits-uncoded, none-differs}
+use Rattle.payload_a.proofs.Coding.{bits-behind, length-behind, bits-information, coded-blocks, coded-information, fits-uncoded, none-differs}
 use Rattle.payload_a.proofs.Coding.{length-blocks, blocks-codeword, blocks-inj, block-codeword}
 use Rattle.payload_a.proofs.Framing.{length-carried}
 use Rattle.payload_a.proofs.Turnings.{length-read}
@@ -110,17 +109,10 @@ unfolding scrambled
 informations-apart mode f g lf lg e = rules-apart mode f g lf lg (scrambled-inj start (withCheck (bitsOf f)) (withEarlierCheck (bitsOf g)) e)
 
 bits-earlier : (frame : List ℕ) → Bits (earlierInformation frame)
-unfolding scrambled
-bits-earlier frame =
-    bits-scrambled start (withEarlierCheck (bitsOf frame))
-    (bits-append (bitsOf frame) (digits 32 (earlierCheck (bitsOf frame))) (bits-bitsOf frame) (digits-bits 32 (earlierCheck (bitsOf frame))))
+bits-earlier frame = bits-behind frame (earlierCheck (bitsOf frame))
 
 length-earlier : (frame : List ℕ) → length (earlierInformation frame) ≡ 8 * length frame + 32
-unfolding scrambled
-length-earlier frame =
-    let check = digits 32 (earlierCheck (bitsOf frame)) in
-    length-scrambled start (withEarlierCheck (bitsOf frame)) ∙ length-append (bitsOf frame) check
-    ∙ omega (arith, length-bitsOf frame, length-digits 32 (earlierCheck (bitsOf frame)))
+length-earlier frame = length-behind frame (earlierCheck (bitsOf frame))
 
 earlier-uncoded : (frame : List ℕ) → earlierA 0 frame ≡ earlierInformation frame
 unfolding earlierA
