@@ -1,4 +1,5 @@
-//! What a job answers: its counts, or one of document 01's numbered refusals with a place.
+//! What a job answers: its counts and the mended places of request 10, or one of document 01's numbered refusals with
+//! a place.
 
 /// Why a job was refused. The cases stand in the order of their numbers, not in the order of the checks.
 #[derive(Clone, Copy, Debug, PartialEq, Eq)]
@@ -55,13 +56,31 @@ impl Refusal {
     }
 }
 
-/// The counts of an accepted answer. Jobs that report none leave them 0.
+/// The entries of a list of mended places: as many as code 3 mends.
+pub const MOST_PLACES: usize = 16;
+
+/// The mended places of a word: indices in the word as it came, rising, none twice. Unused entries are 0.
+pub type Places = [u16; MOST_PLACES];
+
+/// The list of these places, at most 16, in their order.
+pub fn listed(places: &[usize]) -> Places {
+    let mut list = [0; MOST_PLACES];
+    for (entry, &place) in list[..places.len()].iter_mut().zip(places) {
+        *entry = place as u16;
+    }
+    list
+}
+
+/// The counts of an accepted answer, and its lists of mended places. Jobs that report none leave them 0.
 #[derive(Clone, Copy, Debug, Default, PartialEq, Eq)]
 pub struct Counts {
     /// Bits mended, over all blocks.
     pub mended: u64,
     /// Protected bits of Payload A that differ.
     pub protected: u64,
+    /// The mended places. Decode has those of its word in the first list; receive A in mode 1 has those of its first
+    /// half and of its second, each counted from 0 in its half. All other lists are all 0.
+    pub places: [Places; 2],
 }
 
 pub type Answer = Result<Counts, Refusal>;
@@ -86,5 +105,14 @@ mod tests {
         assert_eq!(Refusal::BadScheme(210).place(), 210);
         assert_eq!(Refusal::WrongCheck.number(), 10);
         assert_eq!(Refusal::WrongCheck.place(), 0);
+    }
+
+    #[test]
+    fn lists_end_in_zeros() {
+        assert_eq!(listed(&[]), [0; 16]);
+        assert_eq!(listed(&[0]), [0; 16]);
+        assert_eq!(listed(&[0, 507]), [0, 507, 0, 0, 0, 0, 0, 0, 0, 0, 0, 0, 0, 0, 0, 0]);
+        let full: Vec<usize> = (376..392).collect();
+        assert_eq!(listed(&full), [376, 377, 378, 379, 380, 381, 382, 383, 384, 385, 386, 387, 388, 389, 390, 391]);
     }
 }

@@ -10,12 +10,13 @@
 //! 3. The n places of the shortened word are tried; a root elsewhere (a dropped place, or none in the field) is
 //!    missing then, and the word is refused.
 //! 4. The mended word is looked at again: a codeword, at most t places away. Only then is it answered.
+//! 5. The places that are answered are found by comparing the mended word with the word that came, index by index.
 //!
 //! That the words with zero syndromes are those that the generator divides, and no others, is a test below: the matrix
 //! has rank n - k, and takes every codeword to zero.
 
-use crate::answer::{check, Answer, Counts, Refusal};
-use crate::bits::differ;
+use crate::answer::{check, listed, Answer, Counts, Refusal};
+use crate::bits::differing;
 use crate::field::ORDER;
 use crate::logs::LOGS;
 use crate::poly;
@@ -71,15 +72,16 @@ pub fn encode(number: u8, word: &[u8], out: &mut [u8]) -> Answer {
     Ok(Counts::default())
 }
 
-/// Decodes n bits: the only codeword within t goes to the first n elements of `out`, if there is one.
+/// Decodes n bits: the only codeword within t goes to the first n elements of `out`, if there is one. The answer has
+/// the places where it differs from the word.
 pub fn decode(number: u8, word: &[u8], out: &mut [u8]) -> Answer {
     let code = code(number).ok_or(Refusal::Unknown)?;
     check(word.len() == code.n, Refusal::WrongLength)?;
     check(out.len() >= code.n, Refusal::NoRoom)?;
     all_bits(word)?;
-    let (codeword, mended) = code.mended(word).ok_or(Refusal::Hopeless(0))?;
+    let (codeword, places) = code.mended(word).ok_or(Refusal::Hopeless(0))?;
     out[..code.n].copy_from_slice(&codeword);
-    Ok(Counts { mended: mended as u64, protected: 0 })
+    Ok(Counts { mended: places.len() as u64, protected: 0, places: [listed(&places), listed(&[])] })
 }
 
 /// Check 4: every element is 0 or 1.
@@ -101,20 +103,20 @@ impl Code {
         poly::encoded(information, &self.generator)
     }
 
-    /// The codeword within t of these n bits and the number of places that differ, or none.
-    pub fn mended(&self, word: &[u8]) -> Option<(Vec<u8>, usize)> {
+    /// The codeword within t of these n bits and the places that differ, rising; or none.
+    pub fn mended(&self, word: &[u8]) -> Option<(Vec<u8>, Vec<usize>)> {
         let odd = self.odd_syndromes(word);
         if odd == [0; MOST] {
-            return Some((word.to_vec(), 0));
+            return Some((word.to_vec(), vec![]));
         }
         let locator = self.locator(&all_syndromes(&odd[..self.t]))?;
         let mut answer = word.to_vec();
         for place in self.roots(&locator)? {
             answer[place] ^= 1;
         }
-        let mended = differ(&answer, word);
-        let good = self.odd_syndromes(&answer) == [0; MOST] && mended <= self.t;
-        good.then_some((answer, mended))
+        let places = differing(&answer, word);
+        let good = self.odd_syndromes(&answer) == [0; MOST] && places.len() <= self.t;
+        good.then_some((answer, places))
     }
 
     /// Blocks of k bits coded one after the other.
@@ -126,16 +128,16 @@ impl Code {
         sent
     }
 
-    /// The information bits of received blocks and how many bits were mended in all; or the first hopeless block.
-    pub fn mended_blocks(&self, received: &[u8]) -> Result<(Vec<u8>, u64), Refusal> {
+    /// The information bits of received blocks and the mended places of each block; or the first hopeless block.
+    pub fn mended_blocks(&self, received: &[u8]) -> Result<(Vec<u8>, Vec<Vec<usize>>), Refusal> {
         let mut information = Vec::with_capacity(received.len() / self.n * self.k);
-        let mut total = 0;
+        let mut mended = Vec::new();
         for (number, block) in received.chunks(self.n).enumerate() {
-            let (word, mended) = self.mended(block).ok_or(Refusal::Hopeless(number))?;
+            let (word, places) = self.mended(block).ok_or(Refusal::Hopeless(number))?;
             information.extend_from_slice(&word[..self.k]);
-            total += mended as u64;
+            mended.push(places);
         }
-        Ok((information, total))
+        Ok((information, mended))
     }
 
     /// The parity-check matrix times the word: S(1), S(3), .., S(2t-1), and zeros up to the length.

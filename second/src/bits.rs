@@ -15,6 +15,11 @@ pub fn differ(v: &[u8], w: &[u8]) -> usize {
     v.iter().zip(w).filter(|(x, y)| x != y).count()
 }
 
+/// The places where two lists of one length differ, rising.
+pub fn differing(v: &[u8], w: &[u8]) -> Vec<usize> {
+    (0..v.len()).filter(|&place| v[place] != w[place]).collect()
+}
+
 #[cfg(test)]
 mod tests {
     use super::*;
@@ -28,5 +33,12 @@ mod tests {
     fn there_and_back() {
         let all: Vec<u8> = (0..=255).collect();
         assert_eq!(to_bytes(&of_bytes(&all)), all);
+    }
+
+    #[test]
+    fn places_that_differ() {
+        assert_eq!(differing(&[0, 1, 1, 0, 1], &[1, 1, 0, 0, 0]), [0, 2, 4]);
+        assert_eq!(differ(&[0, 1, 1, 0, 1], &[1, 1, 0, 0, 0]), 3);
+        assert_eq!(differing(&[1, 0], &[1, 0]), []);
     }
 }

@@ -3,6 +3,7 @@
 //! A new process for each batch, through pipes. Each batch ends in another way (the input just ends, an unknown job, a
 //! cut request, a list too long), after which nothing may be answered.
 
+use crate::answer::MOST_PLACES;
 use crate::hostile;
 use crate::rng::Rng;
 use crate::tally::Tally;
@@ -203,7 +204,12 @@ fn counts(request: &Request) -> &'static [&'static str] {
     [&[][..], &["mended"], &[], &["mended", "protected"], &[], &["mended"]][request.job() as usize - 1]
 }
 
-/// Number, place and counts of a response, as far as it has them.
+/// The lists of mended places that it has after them.
+fn lists_of_places(request: &Request) -> &'static [&'static str] {
+    [&[][..], &["places"], &["first places", "second places"]][request.lists_of_places()]
+}
+
+/// Number, place, counts and lists of mended places of a response, as far as it has them.
 fn head(request: &Request, response: &[u8]) -> String {
     let Some(number) = response.first() else {
         return "nothing".to_string();
@@ -211,6 +217,11 @@ fn head(request: &Request, response: &[u8]) -> String {
     let mut text = format!("number {number}");
     for (name, eight) in ["place"].iter().chain(counts(request)).zip(response[1..].chunks_exact(8)) {
         text += &format!(" {name} {}", u64::from_le_bytes(eight.try_into().expect("eight bytes")));
+    }
+    let after = response.get(9 + 8 * counts(request).len()..).unwrap_or_default();
+    for (name, list) in lists_of_places(request).iter().zip(after.chunks_exact(2 * MOST_PLACES)) {
+        let places: Vec<u16> = list.chunks(2).map(|two| u16::from_le_bytes([two[0], two[1]])).collect();
+        text += &format!(" {name} {places:?}");
     }
     text
 }
@@ -220,6 +231,12 @@ fn part(request: &Request, at: usize) -> String {
     let mut begin = 9 + 8 * counts(request).len();
     if at < begin {
         return format!("byte {at}, in number, place and counts");
+    }
+    for name in lists_of_places(request) {
+        if at < begin + 2 * MOST_PLACES {
+            return format!("byte {at}, {name}[{}]", (at - begin) / 2);
+        }
+        begin += 2 * MOST_PLACES;
     }
     let lists: Vec<(&str, usize, usize)> = match request {
         Request::Encode { out, .. } | Request::Decode { out, .. } => vec![("out", 1, out.len())],
@@ -294,9 +311,40 @@ mod tests {
         let request = Request::ReceiveA { mode: 1, i: vec![], q: vec![], area: vec![5; 3] };
         let expected = answered(request.clone(), &mut Tally::default());
         let mut got = expected.clone();
-        got[31] = 6;
-        assert!(difference(&request, &expected, &got).ends_with("at byte 31, area[2]"));
+        got[95] = 6;
+        assert!(difference(&request, &expected, &got).ends_with("at byte 95, area[2]"));
+        got[89] = 6;
+        assert!(difference(&request, &expected, &got).ends_with("at byte 89, in the count of area"));
         got[9] = 7;
         assert!(difference(&request, &expected, &got).contains("number 3 place 0 mended 7 protected 0"));
+    }
+
+    #[test]
+    fn places_that_differ_are_named() {
+        let request = Request::ReceiveA { mode: 1, i: vec![], q: vec![], area: vec![5; 3] };
+        let expected = answered(request.clone(), &mut Tally::default());
+        let zeros = "0, 0, 0, 0, 0, 0, 0, 0, 0, 0, 0, 0, 0, 0, 0";
+        for (at, name) in [(25, "first places[0]"), (56, "first places[15]"), (57, "second places[0]")] {
+            let mut got = expected.clone();
+            got[at] = 1;
+            let text = difference(&request, &expected, &got);
+            assert!(text.ends_with(&format!("at byte {at}, {name}")), "{text}");
+        }
+        let mut got = expected.clone();
+        (got[88], got[57]) = (1, 3);
+        let text = difference(&request, &expected, &got[..89]);
+        let lists = format!(" first places [0, {zeros}] second places [3, {}, 256]\n", &zeros[3..]);
+        assert!(text.contains(&lists), "{text}");
+        // A list that is cut is not shown.
+        let text = difference(&request, &expected, &got[..88]);
+        assert!(text.contains(&format!(" first places [0, {zeros}]\n  of 96 bytes, 88 came;")), "{text}");
+        let request = Request::Decode { code: 1, word: vec![], out: vec![5; 3] };
+        let expected = answered(request.clone(), &mut Tally::default());
+        let mut got = expected.clone();
+        got[19] = 7;
+        let text = difference(&request, &expected, &got);
+        assert!(text.contains(&format!("mended 0 places [0, 7, {}]\n", &zeros[3..])), "{text}");
+        assert!(text.ends_with("at byte 19, places[1]"), "{text}");
+        assert_eq!(part(&request, 49), "byte 49, in the count of out");
     }
 }

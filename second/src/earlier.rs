@@ -2,12 +2,13 @@
 //! earlier rule, and what a sender of the earlier rule made must be refused by it.
 //!
 //! Frames of mode 1 go clean, and again with 16 hits in each half, bits flipped between the code and DQPSK: so that
-//! what is mended is checked by the same rule.
+//! what is mended is checked by the same rule. Whoever accepts them answers these places, full lists of both halves.
 //!
 //! Two processes for each batch: the first sends the frames, the second receives what the first one sent, and what the
 //! earlier rule sends.
 
-use crate::answer::{Answer, Counts, Refusal};
+use crate::answer::{listed, Answer, Counts, Places, Refusal};
+use crate::bits::differing;
 use crate::check::{Rule, EARLIER, RULE};
 use crate::compare::{difference, run, Got, SHOWN};
 use crate::hostile::{bytes_of_a_frame, flip};
@@ -113,15 +114,16 @@ fn points_of(reply: Reply) -> Sent {
     }
 }
 
-/// The places of hits in both halves, among the 840 bits: none is a protected one.
-fn hits(rng: &mut Rng) -> Vec<usize> {
-    let mut halves = [0; 4 * SEGMENT];
-    halves.chunks_mut(2 * SEGMENT).for_each(|half| flip(rng, half, HITS));
-    let (hit, clean) = (with_fields(&halves), with_fields(&[0; 4 * SEGMENT]));
-    (0..hit.len()).filter(|&place| hit[place] != clean[place]).collect()
+/// The places of hits in both halves, among the 840 bits: none is a protected one. And those of each half, in the half.
+fn hits(rng: &mut Rng) -> (Vec<usize>, [Places; 2]) {
+    const HALF: usize = 2 * SEGMENT;
+    let mut halves = [0; 2 * HALF];
+    halves.chunks_mut(HALF).for_each(|half| flip(rng, half, HITS));
+    let places = [0, HALF].map(|begin| listed(&differing(&halves[begin..begin + HALF], &[0; HALF])));
+    (differing(&with_fields(&halves), &with_fields(&[0; 2 * HALF])), places)
 }
 
-/// A frame, an area to receive it into, and which of its 840 bits are hit on the way.
+/// A frame, an area to receive it into, which of its 840 bits are hit on the way, and which places of its halves.
 #[derive(Clone)]
 struct Frame {
     index: u64,
@@ -129,6 +131,7 @@ struct Frame {
     bytes: Vec<u8>,
     area: Vec<u8>,
     hits: Vec<usize>,
+    places: [Places; 2],
 }
 
 impl Frame {
@@ -138,9 +141,10 @@ impl Frame {
         let [uncoded, coded] = [0, 1].map(|mode| {
             let length = frame_bytes(mode).expect("0 or 1");
             let (bytes, area) = (bytes_of_a_frame(&mut rng, length), rng.bytes(length + 3));
-            Frame { index, mode, bytes, area, hits: vec![] }
+            Frame { index, mode, bytes, area, hits: vec![], places: [listed(&[]); 2] }
         });
-        let hit = Frame { hits: hits(&mut rng), ..coded.clone() };
+        let (hits, places) = hits(&mut rng);
+        let hit = Frame { hits, places, ..coded.clone() };
         [uncoded, coded, hit]
     }
 
@@ -179,7 +183,7 @@ impl Frame {
 
     /// In the order of `COMPARED`, from the points that the program sent and its replies to `receives`.
     fn outcomes(&self, sent: &Sent, received: &[Reply]) -> [Outcome; 4] {
-        let accepted = Ok(Counts { mended: self.hits.len() as u64, protected: 0 });
+        let accepted = Ok(Counts { mended: self.hits.len() as u64, protected: 0, places: self.places });
         let here = |rule| sent.clone().map(|points| self.received(rule, &points));
         let there = |number: usize| received[number].clone();
         [
@@ -287,6 +291,34 @@ mod tests {
         assert_eq!(counts(program(lax)), (55, 5));
         let uncounted = |request: &mut Request| request.call().map(|_| Counts::default());
         assert_eq!(counts(program(uncounted)), (55, 5));
+    }
+
+    #[test]
+    fn receivers_that_answer_other_places_fail() {
+        let answering = |places: fn([Places; 2]) -> [Places; 2]| {
+            program(move |request: &mut Request| {
+                request.call().map(|counts| Counts { places: places(counts.places), ..counts })
+            })
+        };
+        assert_eq!(counts(answering(|places| places)), (60, 0));
+        assert_eq!(counts(answering(|_| [listed(&[]); 2])), (55, 5));
+        assert_eq!(counts(answering(|[first, second]| [second, first])), (55, 5));
+        // The second half's counted from the beginning of the first half.
+        let on = |[first, second]: [Places; 2]| [first, second.map(|place| if place > 0 { place + 392 } else { 0 })];
+        assert_eq!(counts(answering(on)), (55, 5));
+    }
+
+    #[test]
+    fn sixteen_places_of_each_half_are_hit() {
+        let mut rng = Rng::new(1);
+        for _ in 0..50 {
+            let (hits, places) = hits(&mut rng);
+            assert_eq!(hits.len(), 32);
+            // A symbol has 420 bits: 10 protected ones, a segment, 10 more, a segment, 8 more.
+            let in_symbol = hits.iter().map(|place| place % 420);
+            let counted: Vec<usize> = in_symbol.map(|p| if p < 206 { p - 10 } else { p - 20 }).collect();
+            assert_eq!([listed(&counted[..16]), listed(&counted[16..])], places);
+        }
     }
 
     #[test]

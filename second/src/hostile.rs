@@ -152,6 +152,30 @@ mod tests {
         }
     }
 
+    /// The jobs whose answers have lists of mended places, and their codes, or the mode.
+    const WITH_LISTS: [(u8, u8); 4] = [(2, 1), (2, 2), (2, 3), (4, 1)];
+
+    #[test]
+    fn every_count_and_full_lists_come_among_the_committed_requests() {
+        let tally = Tally::of(1, 1_500, &[1, 2, 3, 4, 5, 6]);
+        for (code, t) in [(1, 4), (2, 8), (3, 16)] {
+            assert_eq!(tally.reached[&(2, code)].mended, (0..=t).collect());
+        }
+        for from in WITH_LISTS {
+            assert!(tally.reached[&from].lists.seen().iter().all(|list| list.full > 0), "{from:?}");
+        }
+    }
+
+    #[test]
+    fn both_ends_of_a_word_are_mended_in_every_list() {
+        let tally = Tally::of(1, 5_000, &[1, 2, 3, 4, 5, 6]);
+        for from in WITH_LISTS {
+            let lists = tally.reached[&from].lists.seen();
+            assert_eq!(lists.len(), from.0 as usize / 2);
+            assert!(lists.iter().all(|list| list.first > 0 && list.last > 0), "{from:?}");
+        }
+    }
+
     #[test]
     fn requests_are_of_moderate_size() {
         let total: usize = (0..4_000).map(|index| request(2, index, &[1, 2, 3, 4, 5, 6]).to_bytes().len()).sum();

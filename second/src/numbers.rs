@@ -1,7 +1,7 @@
 //! Document 01's "Numbers to try", as far as they can be run, those of the frame check by the rule of request 6, and
 //! the facts about codes and tables beside them.
 
-use crate::answer::{Answer, Counts, Refusal};
+use crate::answer::{listed, Answer, Counts, Refusal};
 use crate::bch::{self, Code};
 use crate::grid::{carriers, CARRIERS};
 use crate::largest::{BLOCK_BYTES, LARGEST};
@@ -99,12 +99,15 @@ fn flips() -> Vec<Line> {
         let (mut back, mut never) = (true, true);
         for _ in 0..1_000 {
             let sent = code.encoded(&rng.bits(code.k));
-            let (answer, out) = decoded_with_flips(&mut rng, number, &sent, code.t);
-            back &= answer == Ok(Counts { mended: code.t as u64, protected: 0 }) && out == sent;
-            let (answer, out) = decoded_with_flips(&mut rng, number, &sent, code.t + 1);
+            let (answer, out, flipped) = decoded_with_flips(&mut rng, number, &sent, code.t);
+            let places = [listed(&flipped), listed(&[])];
+            back &= answer == Ok(Counts { mended: code.t as u64, protected: 0, places }) && out == sent;
+            let (answer, out, _) = decoded_with_flips(&mut rng, number, &sent, code.t + 1);
             never &= answer.is_err() || out != sent;
         }
-        lines.push((format!("code {number}: 1000 codewords with {} flips come back, count {}", code.t, code.t), back));
+        let t = code.t;
+        let text = format!("code {number}: 1000 codewords with {t} flips come back, count {t}, and their places");
+        lines.push((text, back));
         lines.push((format!("code {number}: 1000 with {} flips: never the old codeword", code.t + 1), never));
         lines.push((
             format!("code {number}: 1000 words near a 511-bit codeword with hits in dropped places: refused"),
@@ -119,11 +122,14 @@ fn flips() -> Vec<Line> {
     lines
 }
 
-fn decoded_with_flips(rng: &mut Rng, number: u8, sent: &[u8], count: usize) -> (Answer, Vec<u8>) {
+/// The answer, what came out, and the places that were flipped, rising.
+fn decoded_with_flips(rng: &mut Rng, number: u8, sent: &[u8], count: usize) -> (Answer, Vec<u8>, Vec<usize>) {
     let mut word = sent.to_vec();
-    rng.distinct(count, word.len()).into_iter().for_each(|place| word[place] ^= 1);
+    let mut flipped = rng.distinct(count, word.len());
+    flipped.sort();
+    flipped.iter().for_each(|&place| word[place] ^= 1);
     let mut out = vec![9; word.len()];
-    (bch::decode(number, &word, &mut out), out)
+    (bch::decode(number, &word, &mut out), out, flipped)
 }
 
 fn dropped_is_refused(rng: &mut Rng, number: u8, code: &Code) -> bool {

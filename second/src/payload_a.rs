@@ -2,7 +2,7 @@
 //!
 //! Sending: frame, check, scrambler, code 3 twice (mode 1), protected fields, DQPSK, grid. Receiving undoes each.
 
-use crate::answer::{check, Answer, Counts, Refusal};
+use crate::answer::{check, listed, Answer, Counts, Refusal};
 use crate::bch::{self, Code};
 use crate::bits::{self, differ};
 use crate::check::{Rule, RULE};
@@ -55,12 +55,13 @@ pub fn receive_by(rule: Rule, mode: u8, i: &[i16], q: &[i16], area: &mut [u8]) -
     let length = frame_bytes(mode).ok_or(Refusal::Unknown)?;
     check(i.len() >= POINTS && q.len() >= POINTS && area.len() >= length, Refusal::NoRoom)?;
     let (received, protected) = without_fields(&framed(i, q)?);
-    let (information, mended) = decoded(mode, &received)?;
+    let (information, [first, second]) = decoded(mode, &received)?;
     let plain = scrambler::scrambled(&information);
     let (message, sum) = plain.split_at(8 * length);
     check(frame_check::of_by(rule, message) == sum, Refusal::WrongCheck)?;
     area[..length].copy_from_slice(&bits::to_bytes(message));
-    Ok(Counts { mended, protected })
+    let mended = (first.len() + second.len()) as u64;
+    Ok(Counts { mended, protected, places: [listed(&first), listed(&second)] })
 }
 
 /// The frame's bits and their check (clause 7.4.2).
@@ -85,9 +86,13 @@ pub fn coded(mode: u8, information: &[u8]) -> Vec<u8> {
     code(mode).map_or(information.to_vec(), |code| code.encoded_blocks(information))
 }
 
-/// The information bits of the 784 received, and how many were mended.
-fn decoded(mode: u8, received: &[u8]) -> Result<(Vec<u8>, u64), Refusal> {
-    code(mode).map_or(Ok((received.to_vec(), 0)), |code| code.mended_blocks(received))
+/// The information bits of the 784 received, and the mended places of each half, counted from 0 in the half.
+fn decoded(mode: u8, received: &[u8]) -> Result<(Vec<u8>, [Vec<usize>; 2]), Refusal> {
+    let Some(code) = code(mode) else {
+        return Ok((received.to_vec(), [vec![], vec![]]));
+    };
+    let (information, halves) = code.mended_blocks(received)?;
+    Ok((information, halves.try_into().expect("two blocks")))
 }
 
 /// The four segments with the protected fields around them (Figure 11): 840 bits.
@@ -189,7 +194,11 @@ mod tests {
                 let mut area = vec![1; 58];
                 let answer = receive(1, &i, &q, &mut area);
                 if first <= 16 && second <= 16 {
-                    assert_eq!(answer, Ok(Counts { mended: (first + second) as u64, protected: 5 }));
+                    places.sort();
+                    let second_half: Vec<usize> = places[first..].iter().map(|p| p - 392).collect();
+                    let lists = [listed(&places[..first]), listed(&second_half)];
+                    let counts = Counts { mended: (first + second) as u64, protected: 5, places: lists };
+                    assert_eq!(answer, Ok(counts));
                     assert_eq!(area, frame);
                 } else {
                     assert_eq!(answer, Err(Refusal::Hopeless(if first > 16 { 0 } else { 1 })));
@@ -197,6 +206,51 @@ mod tests {
                 }
             }
         }
+    }
+
+    /// The lists of a frame hit in these places of the 784 bits, which is mended.
+    fn lists(places: &[usize]) -> [[u16; 16]; 2] {
+        let (i, q) = hit(&[7; 58], places, &[]);
+        let mut area = vec![1; 58];
+        let counts = receive(1, &i, &q, &mut area).unwrap();
+        assert_eq!((counts.mended, counts.protected, area), (places.len() as u64, 0, vec![7; 58]));
+        counts.places
+    }
+
+    #[test]
+    fn places_are_counted_in_each_half() {
+        assert_eq!(lists(&[]), [[0; 16]; 2]);
+        assert_eq!(lists(&[391]), [listed(&[391]), [0; 16]]);
+        assert_eq!(lists(&[392 + 391]), [[0; 16], listed(&[391])]);
+        assert_eq!(lists(&[0, 5, 392, 393]), [listed(&[0, 5]), listed(&[0, 1])]);
+        assert_eq!(lists(&[391, 392, 783]), [listed(&[391]), listed(&[0, 391])]);
+        // On both sides of the protected field between two segments.
+        assert_eq!(lists(&[195, 196, 392 + 195, 392 + 196]), [listed(&[195, 196]); 2]);
+        let full: Vec<usize> = (0..16).map(|hit| 26 * hit + 1).collect();
+        let both: Vec<usize> = full.iter().copied().chain(full.iter().map(|place| 392 + place)).collect();
+        assert_eq!(lists(&both), [listed(&full); 2]);
+        assert_eq!(lists(&both[..16]), [listed(&full), [0; 16]]);
+        assert_eq!(lists(&both[16..]), [[0; 16], listed(&full)]);
+    }
+
+    #[test]
+    fn of_a_single_hit_at_place_0_the_answer_does_not_say_in_which_half() {
+        assert_eq!((lists(&[0]), lists(&[392]), lists(&[0, 392])), ([[0; 16]; 2], [[0; 16]; 2], [[0; 16]; 2]));
+    }
+
+    #[test]
+    fn uncoded_frames_have_no_places() {
+        let frame = [8; 94];
+        let mut framed = with_fields(&coded(0, &scrambler::scrambled(&with_check(&frame))));
+        for place in [0, 206, 839] {
+            framed[place] ^= 1;
+        }
+        let (mut i, mut q) = (vec![0; POINTS], vec![0; POINTS]);
+        grid::write(&dqpsk::points(&framed), &mut i, &mut q);
+        let mut area = vec![1; 94];
+        let counts = Counts { mended: 0, protected: 3, places: [[0; 16]; 2] };
+        assert_eq!(receive(0, &i, &q, &mut area), Ok(counts));
+        assert_eq!(area, frame);
     }
 
     #[test]

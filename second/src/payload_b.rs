@@ -77,7 +77,7 @@ pub fn receive(mode: u8, length: u64, scheme: &[u8], i: &[i16], q: &[i16], area:
     // Number 9 alone leaves something behind: the frame's bytes, all zero.
     let (information, mended) = plan.decoded(&received[..plan.coded_bits]).inspect_err(|_| area.fill(0))?;
     area.copy_from_slice(&bits::to_bytes(&scrambler::scrambled(&information)));
-    Ok(Counts { mended, protected: 0 })
+    Ok(Counts { mended, ..Counts::default() })
 }
 
 impl Plan {
@@ -88,7 +88,11 @@ impl Plan {
 
     /// The scrambled bits again, and how many were mended in all blocks.
     fn decoded(&self, received: &[u8]) -> Result<(Vec<u8>, u64), Refusal> {
-        self.code.map_or(Ok((received.to_vec(), 0)), |code| code.mended_blocks(received))
+        let Some(code) = self.code else {
+            return Ok((received.to_vec(), 0));
+        };
+        let (information, blocks) = code.mended_blocks(received)?;
+        Ok((information, blocks.iter().map(|places| places.len() as u64).sum()))
     }
 }
 
@@ -199,7 +203,7 @@ mod tests {
                 let mut area = vec![8; frame.len() + 3];
                 let answer = receive(mode, frame.len() as u64, &[6; 210], &i, &q, &mut area);
                 if flips <= code.t {
-                    assert_eq!(answer, Ok(Counts { mended: flips as u64, protected: 0 }));
+                    assert_eq!(answer, Ok(Counts { mended: flips as u64, ..Counts::default() }));
                     assert_eq!(area[..frame.len()], frame);
                 } else {
                     assert_eq!(answer, Err(Refusal::Hopeless(block)));

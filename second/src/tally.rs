@@ -1,11 +1,14 @@
 //! What the requests of a seed bring up: each refusal number of each job and its places; of the words, bursts and
-//! frames that came as far as the decoder, by code or mode, how many, and which counts; and the kinds of stray points.
+//! frames that came as far as the decoder, by code or mode, how many, which counts, and which lists of mended places;
+//! and the kinds of stray points.
 
+mod lists;
 mod strays;
 
 use crate::answer::{Answer, Refusal};
 use crate::hostile;
 use crate::trial::{Request, JOBS};
+use lists::Lists;
 use std::collections::{BTreeMap, BTreeSet};
 use std::fmt;
 use strays::Strays;
@@ -17,16 +20,25 @@ pub struct Tally {
     /// At which places, by job - 1 and number.
     places: [[BTreeSet<u64>; 11]; 6],
     /// What came as far as the decoder, by job and by code or mode.
-    reached: BTreeMap<(u8, u8), Reached>,
+    pub reached: BTreeMap<(u8, u8), Reached>,
     /// The stray points that were refused.
     pub strays: Strays,
 }
 
-#[derive(Default)]
-struct Reached {
+pub struct Reached {
     calls: u64,
-    mended: BTreeSet<u64>,
+    /// Counts of accepted answers.
+    pub mended: BTreeSet<u64>,
     protected: BTreeSet<u64>,
+    /// Lists of accepted answers.
+    pub lists: Lists,
+}
+
+impl Reached {
+    /// Nothing yet, of a job in this code or mode.
+    fn of(job: u8, choice: u8) -> Reached {
+        Reached { calls: 0, mended: BTreeSet::new(), protected: BTreeSet::new(), lists: Lists::of(job, choice) }
+    }
 }
 
 impl Tally {
@@ -48,11 +60,13 @@ impl Tally {
         self.places[job as usize - 1][number as usize].insert(place);
         // After the checks a decoding job is accepted, or refused with 9 or 10.
         if matches!(job, 2 | 4 | 6) && matches!(number, 0 | 9 | 10) {
-            let reached = self.reached.entry((job, request.code_or_mode())).or_default();
+            let choice = request.code_or_mode();
+            let reached = self.reached.entry((job, choice)).or_insert_with(|| Reached::of(job, choice));
             reached.calls += 1;
             if let Ok(counts) = answer {
                 reached.mended.insert(counts.mended);
                 reached.protected.insert(counts.protected);
+                reached.lists.add(counts);
             }
         }
         if let Err(Refusal::Stray(index)) = *answer {
@@ -90,6 +104,7 @@ impl fmt::Display for Tally {
             if *job == 4 {
                 write!(f, "; protected {}", Runs(&reached.protected))?;
             }
+            write!(f, "{}", reached.lists)?;
         }
         write!(f, "{}", self.strays)
     }

@@ -1,7 +1,8 @@
 //! The trial program's format (the head of crates/trial/src/main.rt): requests in, the calls made, responses out.
 //!
-//! Integers are little-endian. A list is a 4-byte count and its elements, a byte each, or two for a level. An unknown
-//! job, a list too long for its buffer or a cut request ends the run after the responses so far.
+//! Integers are little-endian. A list is a 4-byte count and its elements, a byte each, or two for a level. Lists of
+//! mended places are always 16 entries of two bytes, with no count. An unknown job, a list too long for its buffer or a
+//! cut request ends the run after the responses so far.
 
 use crate::answer::Answer;
 use crate::{bch, payload_a, payload_b};
@@ -37,6 +38,15 @@ impl Request {
             Request::ReceiveA { .. } => 4,
             Request::SendB { .. } => 5,
             Request::ReceiveB { .. } => 6,
+        }
+    }
+
+    /// How many lists of mended places its response has: one for decode, two for receive A.
+    pub fn lists_of_places(&self) -> usize {
+        match self {
+            Request::Decode { .. } => 1,
+            Request::ReceiveA { .. } => 2,
+            _ => 0,
         }
     }
 
@@ -106,7 +116,8 @@ impl Request {
     }
 }
 
-/// Number, place, the counts that the job has, and each lent list of a request after its call.
+/// Number, place, the counts that the job has, its lists of mended places, and each lent list of a request after its
+/// call.
 pub fn response(after: &Request, answer: Answer) -> Vec<u8> {
     let (number, place, counts) = match answer {
         Ok(counts) => (0, 0, counts),
@@ -119,6 +130,9 @@ pub fn response(after: &Request, answer: Answer) -> Vec<u8> {
     }
     if after.job() == 4 {
         to.extend(counts.protected.to_le_bytes());
+    }
+    for place in counts.places[..after.lists_of_places()].iter().flatten() {
+        to.extend(place.to_le_bytes());
     }
     match after {
         Request::Encode { out, .. } | Request::Decode { out, .. } => put_bytes(&mut to, out),
@@ -206,6 +220,7 @@ fn put_levels(to: &mut Vec<u8>, list: &[i16]) {
 #[cfg(test)]
 mod tests {
     use super::*;
+    use crate::{dqpsk, grid, scrambler};
 
     fn ran(input: &[u8]) -> Vec<u8> {
         let mut output = Vec::new();
@@ -216,14 +231,78 @@ mod tests {
     #[test]
     fn bytes_of_a_request_and_its_response_by_hand() {
         let request = [2, 1, 2, 0, 0, 0, 1, 0, 3, 0, 0, 0, 9, 8, 7];
-        let response = [[2].as_slice(), &[0; 16], &[3, 0, 0, 0, 9, 8, 7]].concat();
+        let response = [[2].as_slice(), &[0; 16], &[0; 32], &[3, 0, 0, 0, 9, 8, 7]].concat();
         assert_eq!(ran(&request), response);
+    }
+
+    #[test]
+    fn bytes_of_a_decode_with_hits_by_hand() {
+        // The codeword of zeros of code 3, hit in four places. 258 is 1 * 256 + 2, 391 is 1 * 256 + 135.
+        let mut word = vec![0; 392];
+        for place in [0, 1, 258, 391] {
+            word[place] = 1;
+        }
+        let request = Request::Decode { code: 3, word, out: vec![9; 393] };
+        let head = [0, /* place */ 0, 0, 0, 0, 0, 0, 0, 0, /* mended */ 4, 0, 0, 0, 0, 0, 0, 0];
+        let places = [[0, 0], [1, 0], [2, 1], [135, 1]].concat();
+        let unused = [0; 2 * 12];
+        let response = [&head[..], &places, &unused, &[137, 1, 0, 0], &[0; 392], &[9]].concat();
+        assert_eq!(ran(&request.to_bytes()), response);
+    }
+
+    /// To receive 784 bits in mode 1, of which some protected bits are hit.
+    fn receive_a(sent: &[u8], fields: &[usize]) -> Request {
+        let mut framed = payload_a::with_fields(sent);
+        fields.iter().for_each(|&place| framed[place] ^= 1);
+        let (mut i, mut q) = (vec![0; payload_a::POINTS], vec![0; payload_a::POINTS]);
+        grid::write(&dqpsk::points(&framed), &mut i, &mut q);
+        Request::ReceiveA { mode: 1, i, q, area: vec![9; 60] }
+    }
+
+    /// The 784 bits of information bits and a check, hit in these places.
+    fn hit(information: &[u8], places: &[usize]) -> Vec<u8> {
+        let mut sent = payload_a::coded(1, &scrambler::scrambled(information));
+        places.iter().for_each(|&place| sent[place] ^= 1);
+        sent
+    }
+
+    #[test]
+    fn bytes_of_a_receive_a_with_hits_by_hand() {
+        // Places 0 and 300 of the first half, 1, 258 and 391 of the second; and the first and last protected bits.
+        let sent = hit(&payload_a::with_check(&[6; 58]), &[0, 300, 392 + 1, 392 + 258, 392 + 391]);
+        let request = receive_a(&sent, &[0, 839]);
+        let head = [0, /* place */ 0, 0, 0, 0, 0, 0, 0, 0];
+        let mended_and_protected = [5, 0, 0, 0, 0, 0, 0, 0, 2, 0, 0, 0, 0, 0, 0, 0];
+        let first = [&[0, 0, 44, 1][..], &[0; 2 * 14]].concat();
+        let second = [&[1, 0, 2, 1, 135, 1][..], &[0; 2 * 13]].concat();
+        let lists = [first, second].concat();
+        let response = [&head[..], &mended_and_protected, &lists, &[60, 0, 0, 0], &[6; 58], &[9, 9]].concat();
+        assert_eq!(ran(&request.to_bytes()), response);
+    }
+
+    #[test]
+    fn refusals_carry_no_places() {
+        // 17 hits of code 3.
+        let request = Request::Decode { code: 3, word: [[1; 17].as_slice(), &[0; 375]].concat(), out: vec![5; 392] };
+        let response = [&[9][..], &[0; 16], &[0; 32], &[136, 1, 0, 0], &[5; 392]].concat();
+        assert_eq!(ran(&request.to_bytes()), response);
+        // The first half is mended, and then the second half is hopeless, or the check wrong.
+        let right = payload_a::with_check(&[6; 58]);
+        let mut wrong = right.clone();
+        wrong[495] ^= 1;
+        let mended = [0, 100, 391];
+        let hopeless: Vec<usize> = mended.into_iter().chain(392..392 + 17).collect();
+        for (sent, number, place) in [(hit(&right, &hopeless), 9, 1), (hit(&wrong, &mended), 10, 0)] {
+            let request = receive_a(&sent, &[0]);
+            let response = [&[number, place][..], &[0; 7], &[0; 16], &[0; 64], &[60, 0, 0, 0], &[9; 60]].concat();
+            assert_eq!(ran(&request.to_bytes()), response);
+        }
     }
 
     #[test]
     fn responses_of_a_receive_carry_its_counts() {
         let request = Request::ReceiveA { mode: 5, i: vec![], q: vec![-2], area: vec![4] };
-        assert_eq!(ran(&request.to_bytes()), [[1].as_slice(), &[0; 24], &[1, 0, 0, 0, 4]].concat());
+        assert_eq!(ran(&request.to_bytes()), [[1].as_slice(), &[0; 24], &[0; 64], &[1, 0, 0, 0, 4]].concat());
         let request = Request::ReceiveB { mode: 0, length: 0, scheme: vec![], i: vec![], q: vec![], area: vec![4] };
         assert_eq!(ran(&request.to_bytes()), [[2].as_slice(), &[0; 16], &[1, 0, 0, 0, 4]].concat());
         let request = Request::SendA { mode: 1, frame: vec![], i: vec![-2], q: vec![] };

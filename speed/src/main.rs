@@ -43,8 +43,8 @@ fn timed(row: &Row) -> (f64, f64) {
     fastest(row)
 }
 
-/// The same number, place, counts and buffers for every input, and the answer that the row says, or the end of the
-/// program.
+/// The same number, place, counts, places mended and buffers for every input, and the answer that the row says, or the
+/// end of the program.
 fn compare(row: &Row) {
     let (mut memory, mut other) = (Memory::new(), Memory::new());
     for (n, input) in row.inputs.iter().enumerate() {

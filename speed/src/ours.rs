@@ -1,4 +1,5 @@
-//! The proved crates' calls, as crates/bridge exports them: a slice is a pointer and then a length.
+//! The proved crates' calls, as crates/bridge exports them: a slice is a pointer and then a length, a list of 16 places
+//! a pointer alone.
 
 use crate::rows::{Answer, Input, Memory};
 
@@ -29,7 +30,7 @@ struct NeededTold {
 
 extern "C" {
     fn ortkaveq_encode(code: u8, word: *const u8, length: usize, out: *mut u8, room: usize) -> Told;
-    fn ortkaveq_decode(code: u8, word: *const u8, length: usize, out: *mut u8, room: usize) -> Told;
+    fn ortkaveq_decode(code: u8, word: *const u8, length: usize, out: *mut u8, room: usize, places: *mut u16) -> Told;
     fn ortkaveq_send_a(
         mode: u8,
         frame: *const u8,
@@ -47,6 +48,8 @@ extern "C" {
         q_length: usize,
         area: *mut u8,
         room: usize,
+        first: *mut u16,
+        second: *mut u16,
     ) -> ReceivedTold;
     fn ortkaveq_send_b(
         mode: u8,
@@ -74,7 +77,11 @@ extern "C" {
     fn ortkaveq_symbols_b(mode: u8, size: usize, scheme: *const u8, entries: usize) -> NeededTold;
 }
 
-// In every call below each pair is a slice of this program, and the memory is lent to nobody else.
+/// A list of places before a call: no entry is one.
+const UNWRITTEN: [u16; 16] = [u16::MAX; 16];
+
+// In every call below each pair is a slice of this program, each list of places has 16 entries, and the memory is lent
+// to nobody else.
 
 pub fn encode(input: &Input, memory: &mut Memory) -> Answer {
     let (word, out) = (&input.bytes, &mut memory.bytes);
@@ -83,7 +90,11 @@ pub fn encode(input: &Input, memory: &mut Memory) -> Answer {
 
 pub fn decode(input: &Input, memory: &mut Memory) -> Answer {
     let (word, out) = (&input.bytes, &mut memory.bytes);
-    told(unsafe { ortkaveq_decode(input.number, word.as_ptr(), word.len(), out.as_mut_ptr(), out.len()) })
+    let mut places = UNWRITTEN;
+    let r = unsafe {
+        ortkaveq_decode(input.number, word.as_ptr(), word.len(), out.as_mut_ptr(), out.len(), places.as_mut_ptr())
+    };
+    Answer { places: [places, [0; 16]], ..told(r) }
 }
 
 pub fn send_a(input: &Input, memory: &mut Memory) -> Answer {
@@ -95,10 +106,21 @@ pub fn send_a(input: &Input, memory: &mut Memory) -> Answer {
 
 pub fn receive_a(input: &Input, memory: &mut Memory) -> Answer {
     let (i, q, area) = (&input.i, &input.q, &mut memory.bytes);
+    let (mut first, mut second) = (UNWRITTEN, UNWRITTEN);
     let r = unsafe {
-        ortkaveq_receive_a(input.number, i.as_ptr(), i.len(), q.as_ptr(), q.len(), area.as_mut_ptr(), area.len())
+        ortkaveq_receive_a(
+            input.number,
+            i.as_ptr(),
+            i.len(),
+            q.as_ptr(),
+            q.len(),
+            area.as_mut_ptr(),
+            area.len(),
+            first.as_mut_ptr(),
+            second.as_mut_ptr(),
+        )
     };
-    Answer { protected: r.protected.into(), ..answer(r.number, r.mended.into(), r.place) }
+    Answer { protected: r.protected.into(), places: [first, second], ..answer(r.number, r.mended.into(), r.place) }
 }
 
 pub fn send_b(input: &Input, memory: &mut Memory) -> Answer {

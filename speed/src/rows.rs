@@ -43,7 +43,8 @@ impl Memory {
     }
 }
 
-/// Document 01's number, 0 for success, its place, and the counts, 0 where a call has none.
+/// Document 01's number, 0 for success, its place, and the counts, 0 where a call has none; and the places mended, of a
+/// word in the first list, of Payload A's two halves in both, all 0 where a call has none.
 #[derive(Debug, Default, PartialEq)]
 pub struct Answer {
     pub number: u32,
@@ -51,6 +52,7 @@ pub struct Answer {
     pub protected: u64,
     pub symbols: u64,
     pub place: u64,
+    pub places: [[u16; 16]; 2],
 }
 
 pub type Call = fn(&Input, &mut Memory) -> Answer;

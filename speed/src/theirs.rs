@@ -1,6 +1,7 @@
 //! The second program's calls, answered in the same form as ours.
 
 use crate::rows::{Answer, Input, Memory};
+use second::answer::Counts;
 use second::{answer, bch, payload_a, payload_b};
 
 pub fn encode(input: &Input, memory: &mut Memory) -> Answer {
@@ -37,7 +38,7 @@ pub fn symbols_b(input: &Input, _: &mut Memory) -> Answer {
 
 fn told(answer: answer::Answer) -> Answer {
     match answer {
-        Ok(counts) => Answer { mended: counts.mended, protected: counts.protected, ..Answer::default() },
+        Ok(Counts { mended, protected, places }) => Answer { mended, protected, places, ..Answer::default() },
         Err(refusal) => refused(refusal),
     }
 }

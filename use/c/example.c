@@ -1,6 +1,6 @@
 /*
- * example [TEXT]: an alarm frame is sent as Payload A, hit on the way and received: first with as many hits as can be mended, then with one more.
- * Exit status 0 only if both were answered as they have to be. C11, and C++11 too.
+ * example [TEXT]: an alarm frame is sent as Payload A, hit on the way and received: first with as many hits as can be mended, and where they were, then with
+ * one more. Exit status 0 only if both were answered as they have to be. C11, and C++11 too.
  */
 #include "ortkaveq.h"
 
@@ -42,13 +42,38 @@ static void hit(int16_t *i, int16_t *q)
                 slip(i, q, symbol * POINTS + 12 * n);
 }
 
-/* Receives into an area and says what came. 1 if the answer is the one expected, and no field is hit. */
+/* Which point of its OFDM symbol, from 1, has a place of a half: two bits a point, five points of a protected field first, and five more behind 196 bits. */
+static int point_of(int place) { return place / 2 + (place < 196 ? 6 : 11); }
+
+/* Says at which points a half was mended. 1 if they are those of hit, in their order. */
+static int named(int half, const uint16_t *places)
+{
+    int good = 1;
+    printf("half %d:   mended at points", half);
+    for (int n = 0; n < ORTKAVEQ_PLACES; n++) {
+        int point = point_of(places[n]);
+        printf(" %d", point);
+        good &= point == 12 * (n < 8 ? n + 1 : n + 2);
+    }
+    puts("");
+    return good;
+}
+
+/* Receives into an area and says what came. 1 if the answer is the one expected, no field is hit, and the places are those of hit, or in a refusal all 0. */
 static int received(const int16_t *i, const int16_t *q, uint8_t *area, unsigned number, unsigned place, unsigned mended)
 {
-    struct ortkaveq_answer_a a = ortkaveq_receive_a(CODED, i, LEVELS, q, LEVELS, area, SIZE);
+    static const uint16_t none[ORTKAVEQ_PLACES] = {0};
+    uint16_t first[ORTKAVEQ_PLACES], second[ORTKAVEQ_PLACES];
+    struct ortkaveq_answer_a a = ortkaveq_receive_a(CODED, i, LEVELS, q, LEVELS, area, SIZE, first, second);
+    int good = a.number == number && a.place == place && a.mended == mended && a.fields == 0;
     printf("received: number %u, place %lu, mended %u, fields %u\n", (unsigned)a.number, (unsigned long)a.place, (unsigned)a.mended, (unsigned)a.fields);
+    if (a.number == ORTKAVEQ_ACCEPTED) {
+        good &= named(1, first);
+        good &= named(2, second);
+    } else
+        good &= memcmp(first, none, sizeof none) == 0 && memcmp(second, none, sizeof none) == 0;
     printf("the area: [%.*s]\n", SIZE, (const char *)area);
-    return a.number == number && a.place == place && a.mended == mended && a.fields == 0;
+    return good;
 }
 
 int main(int count, char **words)

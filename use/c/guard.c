@@ -35,33 +35,55 @@ static void refused_words(enum job job, size_t code, size_t length, size_t n)
     }
 }
 
+/* Decode's places are those where word and out differ, and 0 behind them. */
+static bool named(size_t n)
+{
+    size_t count = 0;
+    for (size_t at = 0; at < n; at++)
+        if (word.bytes[at] != out.bytes[at] && (count == ORTKAVEQ_PLACES || first.places[count++] != at))
+            return false;
+    while (count < ORTKAVEQ_PLACES && first.places[count] == 0)
+        count++;
+    return count == ORTKAVEQ_PLACES;
+}
+
 /* Refused as uncorrectable, or another codeword. */
 static bool another(struct told answer, const struct list *codeword, size_t n)
 {
-    return answer.place == 0 && (answer.number == ORTKAVEQ_UNCORRECTABLE ? answer.count == 0 : answer.number == 0 && !same(&out, codeword, n));
+    return answer.place == 0
+        && (answer.number == ORTKAVEQ_UNCORRECTABLE ? answer.count == 0 : answer.number == 0 && !same(&out, codeword, n) && named(n));
+}
+
+/* A codeword with up to t hits, from this place on and at this distance, is mended just there; with one hit more it is not. */
+static void hit_word(size_t code, size_t n, size_t t, const struct list *codeword, size_t hits, size_t from, size_t distance)
+{
+    memcpy(word.bytes, codeword->bytes, n);
+    word.length = n;
+    for (size_t hit = 0; hit < hits; hit++)
+        word.bytes[from + hit * distance] ^= 1;
+    if (hits > t)
+        HOLD(another(with(&out, n, DECODE, code, n), codeword, n));
+    else {
+        ACCEPT(hits, with(&out, n + hits, DECODE, code, n));
+        HOLD(same(&out, codeword, n));
+        HOLD(named(n));
+    }
 }
 
 static void words(size_t code, size_t n, size_t k, size_t t)
 {
     static struct list codeword;
+    size_t distance = n / (t + 1);
     fill(&word, k, 2);
     ACCEPT(0, with(&out, n + MORE, ENCODE, code, n));
     ACCEPT(0, with(&out, n, ENCODE, code, n));
     HOLD(same(&word, &out, k));
     codeword = out;
     refused_words(ENCODE, code, k, n);
-    EACH(hits, 0, 1, t, t + 1) {
-        memcpy(word.bytes, codeword.bytes, n);
-        word.length = n;
-        for (size_t hit = 0; hit < *hits; hit++)
-            word.bytes[hit * (n / (t + 1))] ^= 1;
-        if (*hits > t)
-            HOLD(another(with(&out, n, DECODE, code, n), &codeword, n));
-        else {
-            ACCEPT(*hits, with(&out, n + *hits, DECODE, code, n));
-            HOLD(same(&out, &codeword, n));
-        }
-    }
+    hit_word(code, n, t, &codeword, 0, 0, distance);
+    EACH(hits, 1, t, t + 1)
+        EACH(from, 0, n - 1 - (*hits - 1) * distance)
+            hit_word(code, n, t, &codeword, *hits, *from, distance);
     refused_words(DECODE, code, n, n);
 }
 
@@ -159,17 +181,34 @@ static void uncoded_a(size_t size)
     REFUSE(ORTKAVEQ_WRONG_CHECK, 0, run(RECEIVE_A, 0, size));
 }
 
-/* t hits in each half are mended, one more is not; and with another codeword added to the first half the check is wrong. */
-static void coded_a(size_t size)
+/* Where each half is hit: of 16 places the first one's last is 391, the second one's first is 0. */
+static size_t hit_at(size_t half, size_t hit) { return half == 0 ? 26 * hit + 1 : 23 * hit; }
+
+/* So many hits in each half are mended just there, with a protected bit hit between them. */
+static void hits_a(size_t size, size_t in_first, size_t in_second)
 {
     sent(SEND_A, 1, size, LEVELS);
-    for (size_t hit = 0; hit < ORTKAVEQ_T3; hit++)
-        flip_a(in_half(0, 24 * hit + 1)), flip_a(in_half(1, 23 * hit));
+    for (size_t hit = 0; hit < in_first; hit++)
+        flip_a(in_half(0, hit_at(0, hit)));
+    for (size_t hit = 0; hit < in_second; hit++)
+        flip_a(in_half(1, hit_at(1, hit)));
     flip_a(415);
-    EXPECT(0, 0, 2 * ORTKAVEQ_T3, 1, run(RECEIVE_A, 1, size));
+    EXPECT(0, 0, in_first + in_second, 1, run(RECEIVE_A, 1, size));
     HOLD(same(&area, &frame, size));
+    for (size_t n = 0; n < ORTKAVEQ_PLACES; n++) {
+        HOLD(first.places[n] == (n < in_first ? hit_at(0, n) : 0));
+        HOLD(second.places[n] == (n < in_second ? hit_at(1, n) : 0));
+    }
+}
+
+/* Up to t hits in each half are mended, one more is not; and with another codeword added to the first half the check is wrong, hits or none. */
+static void coded_a(size_t size)
+{
+    EACH(in_first, 0, 1, ORTKAVEQ_T3)
+        EACH(in_second, 0, 1, ORTKAVEQ_T3)
+            hits_a(size, *in_first, *in_second);
     EACH(half, 1, 0) {
-        flip_a(in_half(*half, 391));
+        flip_a(in_half(*half, 390));
         REFUSE(ORTKAVEQ_UNCORRECTABLE, *half, run(RECEIVE_A, 1, size));
     }
     sent(SEND_A, 1, size, LEVELS);
@@ -179,6 +218,8 @@ static void coded_a(size_t size)
     for (size_t n = 0; n < ORTKAVEQ_N3; n++)
         if (out.bytes[n] == 1)
             flip_a(in_half(0, n));
+    REFUSE(ORTKAVEQ_WRONG_CHECK, 0, run(RECEIVE_A, 1, size));
+    flip_a(in_half(0, 391)), flip_a(in_half(1, 390));
     REFUSE(ORTKAVEQ_WRONG_CHECK, 0, run(RECEIVE_A, 1, size));
 }
 

@@ -1,6 +1,6 @@
 /*
  * For guard.c: lists between pages that cannot be touched, and calls made with them. A list that a call only reads cannot be written. A list that it may write
- * is poisoned before; what the call is not to write has to be as it was, in the list and around it.
+ * is poisoned before; what the call is not to write has to be as it was, in the list and around it. A list of places is written whole by every call.
  */
 #define _DEFAULT_SOURCE /* for MAP_ANONYMOUS */
 #include "ortkaveq.h"
@@ -22,20 +22,22 @@ enum {
 struct list {
     size_t length, width, room;
     uint8_t *map, *at;
-    union { uint8_t bytes[MOST_ELEMENTS * sizeof(int16_t)]; int16_t levels[MOST_ELEMENTS]; };
+    union { uint8_t bytes[MOST_ELEMENTS * sizeof(int16_t)]; int16_t levels[MOST_ELEMENTS]; uint16_t places[ORTKAVEQ_PLACES]; };
 };
 
 static struct list word = {.width = 1}, out = {.width = 1}, frame = {.width = 1}, scheme = {.width = 1}, area = {.width = 1};
 static struct list i = {.width = sizeof(int16_t)}, q = {.width = sizeof(int16_t)};
+/* Of places: in a word or in the first half, and in the second. */
+static struct list first = {.length = ORTKAVEQ_PLACES, .width = sizeof(uint16_t)}, second = {.length = ORTKAVEQ_PLACES, .width = sizeof(uint16_t)};
 
 enum job { ENCODE, DECODE, SEND_A, RECEIVE_A, SYMBOLS_B, SEND_B, RECEIVE_B };
 
 /* The lists of each job, and how many of them, the first ones, it only reads. */
-static const struct { struct list *lists[5]; int read; } jobs[] = {
+static const struct { struct list *lists[6]; int read; } jobs[] = {
     [ENCODE] = {{&word, &out}, 1},
-    [DECODE] = {{&word, &out}, 1},
+    [DECODE] = {{&word, &out, &first}, 1},
     [SEND_A] = {{&frame, &i, &q}, 1},
-    [RECEIVE_A] = {{&i, &q, &area}, 2},
+    [RECEIVE_A] = {{&i, &q, &area, &first, &second}, 2},
     [SYMBOLS_B] = {{&scheme}, 1},
     [SEND_B] = {{&frame, &scheme, &i, &q}, 2},
     [RECEIVE_B] = {{&scheme, &i, &q, &area}, 3},
@@ -68,12 +70,12 @@ static void place(struct list *l, bool read)
     l->map = mmap(NULL, l->room + 2 * page(), PROT_NONE, MAP_PRIVATE | MAP_ANONYMOUS, -1, 0);
     if (l->map == MAP_FAILED)
         FAIL("room for a list");
-    uint8_t *first = l->map + page();
-    protect(first, l->room, PROT_READ | PROT_WRITE);
-    memset(first, CANARY, l->room);
-    l->at = behind ? first + l->room - bytes : first;
+    uint8_t *start = l->map + page();
+    protect(start, l->room, PROT_READ | PROT_WRITE);
+    memset(start, CANARY, l->room);
+    l->at = behind ? start + l->room - bytes : start;
     memcpy(l->at, l->bytes, bytes);
-    protect(first, l->room, read ? PROT_READ : PROT_READ | PROT_WRITE);
+    protect(start, l->room, read ? PROT_READ : PROT_READ | PROT_WRITE);
 }
 
 /* Takes back what a list holds. Around it nothing has changed. */
@@ -105,16 +107,21 @@ static struct told call(enum job job, uint8_t mode, size_t size)
 {
     switch (job) {
     case ENCODE: return told(ortkaveq_encode(mode, LIST(word), LIST(out)));
-    case DECODE: return told(ortkaveq_decode(mode, LIST(word), LIST(out)));
+    case DECODE: return told(ortkaveq_decode(mode, LIST(word), LIST(out), (void *)first.at));
     case SEND_A: return told(ortkaveq_send_a(mode, LIST(frame), LIST(i), LIST(q)));
-    case RECEIVE_A: return told_a(ortkaveq_receive_a(mode, LIST(i), LIST(q), LIST(area)));
+    case RECEIVE_A: return told_a(ortkaveq_receive_a(mode, LIST(i), LIST(q), LIST(area), (void *)first.at, (void *)second.at));
     case SYMBOLS_B: return told_symbols(ortkaveq_symbols_b(mode, size, LIST(scheme)));
     case SEND_B: return told(ortkaveq_send_b(mode, LIST(frame), LIST(scheme), LIST(i), LIST(q)));
     default: return told(ortkaveq_receive_b(mode, size, LIST(scheme), LIST(i), LIST(q), LIST(area)));
     }
 }
 
-/* Makes a call, by a code or mode. Size is how many elements of each lent list it writes if it is accepted; for symbols B, without any, the frame's bytes. */
+static bool of_places(const struct list *l) { return l == &first || l == &second; }
+
+/*
+ * Makes a call, by a code or mode. Size is how many elements of each lent list it writes if it is accepted; for symbols B, without any, the frame's bytes.
+ * Places are all 0 in a refusal, and where nothing is mended; where something is, guard.c knows them.
+ */
 static struct told run(enum job job, size_t mode, size_t size)
 {
     struct list *const *lists = jobs[job].lists, *const *lent = lists + jobs[job].read, *const *l;
@@ -130,7 +137,10 @@ static struct told run(enum job job, size_t mode, size_t size)
     if (cleared)
         all(&area, 0, size, 0);
     for (l = lent; *l; l++)
-        all(*l, answer.number == 0 || cleared ? size : 0, (*l)->length, POISON);
+        if (!of_places(*l))
+            all(*l, answer.number == 0 || cleared ? size : 0, (*l)->length, POISON);
+        else if (answer.number != 0 || answer.count == 0)
+            all(*l, 0, ORTKAVEQ_PLACES, 0);
     return answer;
 }
 

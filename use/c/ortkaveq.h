@@ -4,10 +4,10 @@
  * docs/SCOPE.md says what is asked of each job, docs/READING.md what is proved of it. The code behind these declarations is proved; that the declarations
  * are those of the code is not proved but run (use/c/check).
  *
- * A list is passed as a pointer and then its length, in elements and not in bytes.
+ * A list is passed as a pointer and then its length, in elements and not in bytes; a list of places, always of 16 elements, as a pointer alone.
  *
  * What a caller owes, and no call can see for itself:
- *   - a pointer leads to as many elements as its length says, is aligned for them, and is not null, not even where the length is 0
+ *   - a pointer leads to as many elements as its length says, or to 16 places, is aligned for them, and is not null, not even where the length is 0
  *     (as data() of an empty std::vector may be);
  *   - a list that a call may write overlaps no other list of that call;
  *   - while a call runs nothing else writes to its lists, or reads those that it may write.
@@ -52,6 +52,12 @@ enum {
     ORTKAVEQ_N1 = 508, ORTKAVEQ_K1 = 472, ORTKAVEQ_T1 = 4,
     ORTKAVEQ_N2 = 504, ORTKAVEQ_K2 = 432, ORTKAVEQ_T2 = 8,
     ORTKAVEQ_N3 = 392, ORTKAVEQ_K3 = 248, ORTKAVEQ_T3 = 16,
+
+    /*
+     * A list of places: its elements. A call that is lent one writes all of it, whatever it answers: the indices of the bits mended, rising, none twice, and 0
+     * behind them; in a refusal 0 alone.
+     */
+    ORTKAVEQ_PLACES = 16,
 
     /* Payload A: bytes of a frame in mode 0, uncoded, and in mode 1, code 3; elements of I and of Q. */
     ORTKAVEQ_A_BYTES0 = 94, ORTKAVEQ_A_BYTES1 = 58,
@@ -115,11 +121,12 @@ static_assert(sizeof(struct ortkaveq_answer_symbols) == 16 && offsetof(struct or
 struct ortkaveq_answer ortkaveq_encode(uint8_t code, const uint8_t *word, size_t word_length, uint8_t *out, size_t out_length);
 
 /*
- * Decodes a word: answers the codeword that differs from it in at most t places, and in how many it does, exactly when there is one.
- * Reads: word, n bits, exactly. Writes: the first n elements of out, the codeword.
- * Refuses with 1, 2, 3, 4, 9. A refusal writes nothing; elements of out beyond n keep what they held.
+ * Decodes a word: answers the codeword that differs from it in at most t places, and in how many and which it does, exactly when there is one.
+ * Reads: word, n bits, exactly. Writes: the first n elements of out, the codeword; all 16 of places, indices in word, as many as mended says, and then 0.
+ * With mended 1 a list of zeros names place 0.
+ * Refuses with 1, 2, 3, 4, 9. A refusal writes nothing to out, and 0 to all of places; elements of out beyond n keep what they held.
  */
-struct ortkaveq_answer ortkaveq_decode(uint8_t code, const uint8_t *word, size_t word_length, uint8_t *out, size_t out_length);
+struct ortkaveq_answer ortkaveq_decode(uint8_t code, const uint8_t *word, size_t word_length, uint8_t *out, size_t out_length, uint16_t *places);
 
 /* ---- Payload A: modes 0 and 1, two OFDM symbols of DQPSK */
 
@@ -133,11 +140,13 @@ struct ortkaveq_answer ortkaveq_send_a(uint8_t mode, const uint8_t *frame, size_
 
 /*
  * Receives a frame. One that was sent by the earlier rule of the frame check is refused with 10.
- * Reads: the first 512 elements of i and of q. Writes: the first 94 (mode 0) or 58 (mode 1) bytes of area, the frame.
- * Refuses with 1, 3, 7, 8, 9, 10. A refusal writes nothing; bytes of area beyond the frame keep what they held.
+ * Reads: the first 512 elements of i and of q. Writes: the first 94 (mode 0) or 58 (mode 1) bytes of area, the frame; all 16 of first and of second, the places
+ * mended in the first and in the second half: each an index, 0 to 391, in the 392 bits that its OFDM symbol carries beside protected fields; in mode 0 all 0.
+ * mended is the number of places of both. With mended 1 and both lists all 0 it is place 0 of one of the two halves, and the answer does not say of which.
+ * Refuses with 1, 3, 7, 8, 9, 10. A refusal writes nothing to area, and 0 to all of first and second; bytes of area beyond the frame keep what they held.
  */
 struct ortkaveq_answer_a ortkaveq_receive_a(uint8_t mode, const int16_t *i, size_t i_length, const int16_t *q, size_t q_length, uint8_t *area,
-                                            size_t area_length);
+                                            size_t area_length, uint16_t *first, uint16_t *second);
 
 /* ---- Payload B: modes 0, 1 and 2, up to 256 OFDM symbols, points by a scheme */
 

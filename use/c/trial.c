@@ -8,13 +8,14 @@
 #include <stdbool.h>
 #include <stdio.h>
 #include <stdlib.h>
+#include <string.h>
 
-/* The most elements of a list of bytes, and of a list of levels; the most lists of a job. */
-enum { MOST_BYTES = 67300, MOST_LEVELS = 65600, LISTS = 4 };
+/* The most elements of a list of bytes, and of a list of levels; the most lists of a job, and of places; what these have in each byte before a call. */
+enum { MOST_BYTES = 67300, MOST_LEVELS = 65600, LISTS = 4, PLACES = 2, POISON = 0xA5 };
 
-/* Jobs 1 to 6: their lists, of bytes or levels, how many of them, the last ones, are lent, and how many counts the response has. */
-static const struct { const char *lists; int lent, counts; } jobs[] = {
-    {"", 0, 0}, {"bb", 1, 0}, {"bb", 1, 1}, {"bll", 2, 0}, {"llb", 1, 2}, {"bbll", 2, 0}, {"bllb", 1, 1},
+/* Jobs 1 to 6: their lists, of bytes or levels, how many of them, the last ones, are lent, and how many counts and lists of places the response has. */
+static const struct { const char *lists; int lent, counts, places; } jobs[] = {
+    {"", 0, 0, 0}, {"bb", 1, 0, 0}, {"bb", 1, 1, 1}, {"bll", 2, 0, 0}, {"llb", 1, 2, 2}, {"bbll", 2, 0, 0}, {"bllb", 1, 1, 0},
 };
 
 /* A list, in memory of just its length, so that a step beyond it is one. */
@@ -38,17 +39,31 @@ static void get(void *to, size_t bytes)
         exit(EXIT_SUCCESS);
 }
 
-/* So does a list too long for its room. The pointer to an empty list is not null. */
+/* The pointer to an empty list is not null. */
+static struct list make_list(size_t length, size_t width)
+{
+    struct list list = {malloc(length > 0 ? length * width : 1), length, width};
+    hold(list.at != NULL, "there is no memory for a list");
+    return list;
+}
+
+/* A list too long for its room ends the program too. */
 static struct list get_list(char kind)
 {
     uint32_t count;
     get(&count, sizeof count);
     if (count > (kind == 'b' ? MOST_BYTES : MOST_LEVELS))
         exit(EXIT_SUCCESS);
-    size_t width = kind == 'b' ? sizeof(uint8_t) : sizeof(int16_t);
-    struct list list = {malloc(count > 0 ? count * width : 1), count, width};
-    hold(list.at != NULL, "there is no memory for a list");
-    get(list.at, count * width);
+    struct list list = make_list(count, kind == 'b' ? sizeof(uint8_t) : sizeof(int16_t));
+    get(list.at, list.length * list.width);
+    return list;
+}
+
+/* No request has a list of places. An entry that a call leaves as it was is no place. */
+static struct list make_places(void)
+{
+    struct list list = make_list(ORTKAVEQ_PLACES, sizeof(uint16_t));
+    memset(list.at, POISON, list.length * list.width);
     return list;
 }
 
@@ -59,13 +74,13 @@ static struct told told(struct ortkaveq_answer a) { return (struct told){a.numbe
 static struct told told_a(struct ortkaveq_answer_a a) { return (struct told){a.number, a.place, {a.mended, a.fields}}; }
 
 #define LIST(n) l[n].at, l[n].length
-static struct told call(uint8_t job, uint8_t mode, size_t size, const struct list *l)
+static struct told call(uint8_t job, uint8_t mode, size_t size, const struct list *l, const struct list *places)
 {
     switch (job) {
     case 1: return told(ortkaveq_encode(mode, LIST(0), LIST(1)));
-    case 2: return told(ortkaveq_decode(mode, LIST(0), LIST(1)));
+    case 2: return told(ortkaveq_decode(mode, LIST(0), LIST(1), places[0].at));
     case 3: return told(ortkaveq_send_a(mode, LIST(0), LIST(1), LIST(2)));
-    case 4: return told_a(ortkaveq_receive_a(mode, LIST(0), LIST(1), LIST(2)));
+    case 4: return told_a(ortkaveq_receive_a(mode, LIST(0), LIST(1), LIST(2), places[0].at, places[1].at));
     case 5: return told(ortkaveq_send_b(mode, LIST(0), LIST(1), LIST(2), LIST(3)));
     default: return told(ortkaveq_receive_b(mode, size, LIST(0), LIST(1), LIST(2), LIST(3)));
     }
@@ -87,14 +102,16 @@ static void hold_symbols(struct told job, uint8_t mode, size_t size, const struc
     hold(short_of == (number == ORTKAVEQ_NO_ROOM), "the job asks for another room than ortkaveq_symbols_b");
 }
 
-/* What a response has for each job: number, place, its counts, and the lent lists. */
-static void put_response(uint8_t job, struct told answer, const struct list *lent)
+/* What a response has for each job: number, place, its counts, its lists of places without their length, and the lent lists. */
+static void put_response(uint8_t job, struct told answer, const struct list *places, const struct list *lent)
 {
     hold(answer.number <= ORTKAVEQ_WRONG_CHECK, "there is no such number");
     hold(jobs[job].counts > 0 || answer.counts[0] == 0, "a job that mends nothing has mended bits");
     put(&(uint8_t){(uint8_t)answer.number}, sizeof(uint8_t));
     put(&answer.place, sizeof answer.place);
     put(answer.counts, jobs[job].counts * sizeof *answer.counts);
+    for (const struct list *l = places; l < places + jobs[job].places; l++)
+        put(l->at, l->length * l->width);
     for (const struct list *l = lent; l < lent + jobs[job].lent; l++) {
         put(&(uint32_t){(uint32_t)l->length}, sizeof(uint32_t));
         put(l->at, l->length * l->width);
@@ -104,7 +121,7 @@ static void put_response(uint8_t job, struct told answer, const struct list *len
 /* The rest of a request. */
 static void serve(uint8_t job)
 {
-    struct list l[LISTS];
+    struct list l[LISTS], places[PLACES];
     uint8_t mode;
     uint64_t size = 0;
     int count = 0;
@@ -113,14 +130,18 @@ static void serve(uint8_t job)
         get(&size, sizeof size);
     for (const char *kind = jobs[job].lists; *kind; kind++)
         l[count++] = get_list(*kind);
-    struct told answer = call(job, mode, size, l);
+    for (int n = 0; n < PLACES; n++)
+        places[n] = make_places();
+    struct told answer = call(job, mode, size, l, places);
     if (job == 5)
         hold_symbols(answer, mode, l[0].length, l + 1, l[0].length);
     if (job == 6)
         hold_symbols(answer, mode, size, l, l[3].length);
-    put_response(job, answer, l + count - jobs[job].lent);
+    put_response(job, answer, places, l + count - jobs[job].lent);
     while (count > 0)
         free(l[--count].at);
+    for (int n = 0; n < PLACES; n++)
+        free(places[n].at);
 }
 
 int main(void)

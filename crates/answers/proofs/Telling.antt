@@ -1,11 +1,11 @@
 -- What an answer tells says which answer it is; and what holds of what checks find, test by test.
 -- Assumes nothing.
-use mathlib.Core.Path.{_≡_, refl, sym, ap, _∙_}
+use mathlib.Core.Path.{_≡_, refl, sym, ap, ap₂, _∙_}
 use mathlib.Core.Bool.{Bool, true, false, cond}
 use Prim.Native.Nat.{ℕ, _<_}
 use native.Mathlib.Omega.{arith}
 use lib.Dec.{eqb}
-use Rattle.answers.specs.Answers.{accepted, refused, because, ofWritten, ofDecoded, ofReceivedA, ofReceivedB}
+use Rattle.answers.specs.Answers.{accepted, refused, because, ofWritten, ofDecoded, ofReceivedA, ofReceivedB, ToldWord, ofWord, ToldBurst, ofBurst}
 use Rattle.answers.specs.Checks.{Checked}
 use Rattle.answers.specs.declared.Refusal.{Refusal}
 use Rattle.answers.specs.declared.Refusal.the-variants.{Unknown, WrongLength, NoRoom, NotABit, BadScheme, TooManySymbols, Occupied, StrayPoint, Uncorrectable, WrongCheck}
@@ -18,6 +18,8 @@ use Rattle.answers.specs.declared.ReceivedA.{ReceivedA}
 use Rattle.answers.specs.declared.ReceivedA.the-variants as receivedA
 use Rattle.answers.specs.declared.ReceivedB.{ReceivedB}
 use Rattle.answers.specs.declared.ReceivedB.the-variants as receivedB
+use Rattle.answers.specs.declared.DecodedWord.{DecodedWord}
+use Rattle.answers.specs.declared.ReceivedBurst.{ReceivedBurst}
 
 -- the refusal that tells this
 pub refusalOf : Told → Refusal
@@ -95,8 +97,14 @@ unfolding decodedOf
 decoded-of (decoded.Accepted m) = refl
 decoded-of (decoded.Refused r) = rw (numbered r, refusal-of r)
 
-pub decoded-same : (a b : Decoded) → ofDecoded a ≡ ofDecoded b → a ≡ b
+decoded-same : (a b : Decoded) → ofDecoded a ≡ ofDecoded b → a ≡ b
 decoded-same a b e = sym (decoded-of a) ∙ ap decodedOf e ∙ decoded-of b
+
+-- and with it the places
+pub word-same : (a b : DecodedWord) → ofWord a ≡ ofWord b → a ≡ b
+word-same a b e =
+    ap₂ (λ (x : Decoded) (t : ToldWord). record { answer = x; places = t .places })
+    (decoded-same (a .answer) (b .answer) (ap (λ (t : ToldWord). t .told) e)) e
 
 receivedAOf : Told → ReceivedA
 receivedAOf t = cond (eqb (t .number) 0) (receivedA.Accepted (t .mended) (t .protected)) (receivedA.Refused (refusalOf t))
@@ -106,8 +114,13 @@ unfolding receivedAOf
 received-a-of (receivedA.Accepted m p) = refl
 received-a-of (receivedA.Refused r) = rw (numbered r, refusal-of r)
 
-pub received-a-same : (a b : ReceivedA) → ofReceivedA a ≡ ofReceivedA b → a ≡ b
+received-a-same : (a b : ReceivedA) → ofReceivedA a ≡ ofReceivedA b → a ≡ b
 received-a-same a b e = sym (received-a-of a) ∙ ap receivedAOf e ∙ received-a-of b
+
+pub burst-same : (a b : ReceivedBurst) → ofBurst a ≡ ofBurst b → a ≡ b
+burst-same a b e =
+    ap₂ (λ (x : ReceivedA) (t : ToldBurst). record { answer = x; first = t .first; second = t .second })
+    (received-a-same (a .answer) (b .answer) (ap (λ (t : ToldBurst). t .told) e)) e
 
 receivedBOf : Told → ReceivedB
 receivedBOf t = cond (eqb (t .number) 0) (receivedB.Accepted (t .mended)) (receivedB.Refused (refusalOf t))

@@ -1,6 +1,9 @@
 -- Document 01's number, place and counts for each answer ("Refusal numbers"). In a refusal all counts are 0, and so is a count that the job does not have.
+-- Of a word and of a burst also the places mended (document 02, item 10). In a refusal there are none.
 -- Assumes nothing.
-use Prim.Native.Nat.{ℕ}
+use mathlib.Core.List.{List, [], _++_}
+use Prim.Native.Nat.{ℕ, _-_}
+use lib.ListN.{length, replicate}
 use Rattle.answers.specs.declared.Refusal.{Refusal}
 use Rattle.answers.specs.declared.Refusal.the-variants.{Unknown, WrongLength, NoRoom, NotABit, BadScheme, TooManySymbols, Occupied, StrayPoint, Uncorrectable, WrongCheck}
 use Rattle.answers.specs.declared.Told.{Told}
@@ -12,6 +15,8 @@ use Rattle.answers.specs.declared.ReceivedA.{ReceivedA}
 use Rattle.answers.specs.declared.ReceivedA.the-variants as receivedA
 use Rattle.answers.specs.declared.ReceivedB.{ReceivedB}
 use Rattle.answers.specs.declared.ReceivedB.the-variants as receivedB
+use Rattle.answers.specs.declared.DecodedWord.{DecodedWord}
+use Rattle.answers.specs.declared.ReceivedBurst.{ReceivedBurst}
 
 -- what an accepted answer tells, with the bits mended and the protected bits that differ
 abbrev pub accepted : ℕ → ℕ → Told
@@ -52,3 +57,50 @@ ofReceivedA (receivedA.Refused why) = because why
 abbrev pub ofReceivedB : ReceivedB → Told
 ofReceivedB (receivedB.Accepted mended) = accepted mended 0
 ofReceivedB (receivedB.Refused why) = because why
+
+-- ---- the places mended
+
+-- places as an answer lists them, in 16 entries: 0 behind the last
+abbrev pub listed : List ℕ → List ℕ
+listed places = places ++ replicate (16 - length places) 0
+
+-- what decode tells of a word: number, place and count, and the list of places
+pub record ToldWord : Type 0 where
+  pub told : Told
+  pub places : List ℕ
+
+abbrev pub ofWord : DecodedWord → ToldWord
+ofWord r = record { told = ofDecoded (r .answer); places = r .places }
+
+-- where it is accepted, with these places mended, and where it is refused
+abbrev pub acceptedWord : ℕ → List ℕ → ToldWord
+acceptedWord mended places = record { told = accepted mended 0; places = listed places }
+
+abbrev pub refusedWord : ℕ → ℕ → ToldWord
+refusedWord number place = record { told = refused number place; places = listed [] }
+
+-- what receive A tells of a burst: number, place and counts, and a list for each half
+pub record ToldBurst : Type 0 where
+  pub told : Told
+  pub first : List ℕ
+  pub second : List ℕ
+
+abbrev pub ofBurst : ReceivedBurst → ToldBurst
+ofBurst r = record { told = ofReceivedA (r .answer); first = r .first; second = r .second }
+
+-- where it is accepted, with these places mended in each half, and where it is refused
+abbrev pub acceptedBurst : ℕ → ℕ → List ℕ → List ℕ → ToldBurst
+acceptedBurst mended protected first second = record { told = accepted mended protected; first = listed first; second = listed second }
+
+abbrev pub refusedBurst : ℕ → ℕ → ToldBurst
+refusedBurst number place = record { told = refused number place; first = listed []; second = listed [] }
+
+-- the answers of a refusal, and the answer for a burst that is accepted
+abbrev pub noWord : Refusal → DecodedWord
+noWord why = record { answer = decoded.Refused why; places = listed [] }
+
+abbrev pub noBurst : Refusal → ReceivedBurst
+noBurst why = record { answer = receivedA.Refused why; first = listed []; second = listed [] }
+
+abbrev pub burstOf : ℕ → ℕ → List ℕ → List ℕ → ReceivedBurst
+burstOf mended protected first second = record { answer = receivedA.Accepted mended protected; first = listed first; second = listed second }

@@ -1,7 +1,7 @@
 // What the jobs answer (document 01, "Refusal numbers"): accepted, with the counts that the job has, or refused, for a reason at a place.
 // Document 01's number, place and counts of each answer come from here, for C, the trial program and the report alike.
 ghost use mathlib.Core.Path.{_≡_};
-ghost use Rattle.answers.specs.Answers.{accepted, refused, because, ofWritten, ofDecoded, ofReceivedA, ofReceivedB};
+ghost use Rattle.answers.specs.Answers.{accepted, refused, because, ofWritten, ofDecoded, ofReceivedA, ofReceivedB, noWord, noBurst};
 
 // Why a word, a frame or a grid is refused, in the order of document 01's numbers.
 pub enum Refusal {
@@ -39,6 +39,22 @@ pub enum ReceivedA {
 pub enum ReceivedB {
     Accepted(usize),
     Refused(Refusal),
+}
+
+// The entries of a list of places.
+pub const PLACES: usize = 16;
+
+// What decode answers of a word, and beside it the places that it mended, indices in the word: they rise, as many as were mended; the other entries are 0.
+pub struct DecodedWord {
+    pub answer: Decoded,
+    pub places: [u16; PLACES],
+}
+
+// What receive A answers of a burst, and beside it such a list for each half.
+pub struct ReceivedBurst {
+    pub answer: ReceivedA,
+    pub first: [u16; PLACES],
+    pub second: [u16; PLACES],
 }
 
 // What an answer tells. A count that the job does not have is 0.
@@ -104,6 +120,27 @@ pub fn of_refusal(why: Refusal) -> Told
         Refusal::StrayPoint(index) => refused(8, index),
         Refusal::Uncorrectable(block) => refused(9, block),
         Refusal::WrongCheck => refused(10, 0),
+    }
+}
+
+// A word that is refused: no place is mended.
+pub fn no_word(why: Refusal) -> DecodedWord
+    ensures { λ r. ⌜ r ≡ noWord why ⌝ }
+{
+    DecodedWord {
+        answer: Decoded::Refused(why),
+        places: [0; PLACES],
+    }
+}
+
+// A burst that is refused: no place is mended.
+pub fn no_burst(why: Refusal) -> ReceivedBurst
+    ensures { λ r. ⌜ r ≡ noBurst why ⌝ }
+{
+    ReceivedBurst {
+        answer: ReceivedA::Refused(why),
+        first: [0; PLACES],
+        second: [0; PLACES],
     }
 }
 

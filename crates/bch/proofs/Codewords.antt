@@ -8,6 +8,7 @@ use native.Mathlib.Omega.{arith}
 use lib.ListN.{length, take, drop}
 use lib.Seq.{take-at}
 use Rattle.answers.specs.Checks.{passes}
+use Rattle.answers.specs.Answers.{accepted, refused, ofDecoded, ToldWord}
 use Rattle.answers.specs.declared.Told.{Told}
 use Rattle.answers.proofs.Telling.{never-accepted}
 use Rattle.bch.proofs.Verdicts.{all-pass}
@@ -18,6 +19,7 @@ use Rattle.bch.specs.Promise.{Encodes, Encoding, Mended, Hopeless, Decod
 use Rattle.bits.specs.Words.{Bits, differ}
 use Rattle.answers.specs.declared.Decoded.the-variants.{Accepted, Refused}
 use Rattle.answers.specs.declared.Decoded.{Decoded}
+use Rattle.answers.specs.declared.DecodedWord.{DecodedWord}
 use Rattle.answers.specs.declared.Written.{Written}
 use Rattle.answers.specs.declared.Refusal.{Refusal}
 
@@ -33,18 +35,24 @@ encoded-front number {c} code word out answer after bits long room encoding =
 -- ---- decode's two answers
 
 -- what holds where a codeword is within t and is written, and where there is none
-pub by-answer : (number : ℕ) {c : Code} → named number ≡ known c → (word out : List ℕ) (answer : Decoded) (after : List ℕ) → Bits word
-    → length word ≡ c .n → c .n ≤ length out → (P : Decoded → Type 0) → ((m : ℕ) → Mended c word out (Accepted m) after → P (Accepted m))
-    → ((r : Refusal) → Hopeless c word out (Refused r) after → P (Refused r)) → Decoding number word out answer after → P answer
+pub by-answer : (number : ℕ) {c : Code} → named number ≡ known c → (word out : List ℕ) (answer : DecodedWord) (after : List ℕ) → Bits word
+    → length word ≡ c .n → c .n ≤ length out → (P : Decoded → Type 0) → ((h : Mended c word out answer after) → P (Accepted (differ (h .codeword) word)))
+    → (Hopeless c word out answer after → (r : Refusal) → P (Refused r)) → Decoding number word out answer after → P (answer .answer)
 by-answer number {c} code word out answer after bits long room P found none decoding =
-    go answer (all-pass (λ k. Decodes k word out answer after → Decodes (passes c) word out answer after) (λ d. d .n) word out c
+    go (all-pass (λ k. Decodes k word out answer after → Decodes (passes c) word out answer after) (λ d. d .n) word out c
     long room (none-bad word bits) (λ p. p) (rw code at decoding))
   where
-    go : (a : Decoded) → Decodes (passes c) word out a after → P a
-    go (Accepted m) (inl h) = found m h
-    go (Accepted m) (inr h) = absurd (let z : _≡_ {A = ℕ} 0 9 = ap (λ (t : Told). t .number) (h .tells) in omega arith)
-    go (Refused r) (inl h) = absurd (never-accepted r _ _ (h .tells))
-    go (Refused r) (inr h) = none r h
+    of-mended : (m : ℕ) → P (Accepted m) → (a : Decoded) → ofDecoded a ≡ accepted m 0 → P a
+    of-mended m p (Accepted k) e = rw (ap (λ (t : Told). t .mended) e) p
+    of-mended m p (Refused r) e = absurd (never-accepted r _ _ e)
+
+    of-hopeless : ((r : Refusal) → P (Refused r)) → (a : Decoded) → ofDecoded a ≡ refused 9 0 → P a
+    of-hopeless p (Accepted k) e = absurd (let z : _≡_ {A = ℕ} 0 9 = ap (λ (t : Told). t .number) e in omega arith)
+    of-hopeless p (Refused r) e = p r
+
+    go : Decodes (passes c) word out answer after → P (answer .answer)
+    go (inl h) = of-mended (differ (h .codeword) word) (found h) (answer .answer) (ap (λ (t : ToldWord). t .told) (h .tells))
+    go (inr h) = of-hopeless (none h) (answer .answer) (ap (λ (t : ToldWord). t .told) (h .tells))
 
 -- ---- a codeword is what encode makes of its information
 

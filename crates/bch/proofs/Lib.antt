@@ -9,6 +9,7 @@ pub mod Uniqueness
 pub mod Verdicts
 pub mod Sounds
 pub mod Once
+pub mod Listings
 pub mod Mendings
 pub mod OnceHeld
 pub mod Codewords

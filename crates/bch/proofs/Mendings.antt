@@ -1,9 +1,9 @@
--- What the promise means for words that were sent: encoding gives codewords; hits up to t are mended, with their count; with more than t
--- hits the codeword that was sent is never the answer.
+-- What the promise means for words that were sent: encoding gives codewords; hits up to t are mended, with their count and places; with more
+-- than t hits the codeword that was sent is never the answer.
 -- Assumes nothing.
-use mathlib.Core.Path.{_≡_, sym, ap, _∙_}
+use mathlib.Core.Path.{_≡_, sym, ap, ap₂, _∙_}
 use mathlib.Core.Logic.{inl, inr}
-use mathlib.Core.List.{List, _++_}
+use mathlib.Core.List.{List, [], _++_}
 use Prim.Native.Nat.{ℕ, _-_, _≤_, _<_}
 use native.Mathlib.Decide.{ℕ-discrete}
 use native.Mathlib.Omega.{arith}
@@ -11,19 +11,22 @@ use borrow.Author.Tests.{eq-eqb, ne-eqb}
 use lib.ListN.{length, take, drop, length-append}
 use lib.Seq.{take-at}
 use Rattle.bits.specs.Words.{Bits, digits, differ}
+use Rattle.bits.specs.Places.{places}
 use Rattle.bits.specs.Remainders.{remainder}
 use Rattle.bch.specs.Codes.{Code, known, unknown, named, code1, code2, code3, encoded, Codeword, Within}
-use Rattle.answers.specs.Answers.{accepted, ofDecoded}
+use Rattle.answers.specs.Answers.{accepted, ofDecoded, ToldWord, ofWord, acceptedWord}
 use Rattle.answers.specs.Checks.{passes}
 use Rattle.bch.specs.Promise.{Decodes, Decoding}
 use Rattle.bch.specs.Held.{Rooted}
 use Rattle.answers.specs.declared.Told.{Told}
-use Rattle.answers.specs.declared.Decoded.{Decoded}
+use Rattle.answers.specs.declared.DecodedWord.{DecodedWord}
 use Rattle.bits.proofs.Digits.{bits-append, none-bad, length-digits, digits-bits}
 use Rattle.bits.proofs.Distances.{differ-self}
+use Rattle.bits.proofs.Placing.{places-self}
 use Rattle.bch.proofs.Verdicts.{all-pass}
 use Rattle.bch.proofs.Generators.{rooted1, rooted2, rooted3}
 use Rattle.bch.proofs.Uniqueness.{unique}
+use Rattle.bch.proofs.Listings.{Names, names}
 
 -- ---- encoding
 
@@ -67,7 +70,7 @@ module _ (number : ℕ) {c : Code} (code : named number ≡ known c) where
   encoding-codeword = encoded-codeword (rooted-of number c code)
 
 module _ (number : ℕ) {c : Code} (code : named number ≡ known c) (w out : List ℕ) (bits : Bits w) (long : length w ≡ c .n) (room : c .n ≤ length out)
-    (answer : Decoded) (after : List ℕ) (decoding : Decoding number w out answer after) where
+    (answer : DecodedWord) (after : List ℕ) (decoding : Decoding number w out answer after) where
   passed : Decodes (passes c) w out answer after
   passed =
       all-pass (λ k. Decodes k w out answer after → Decodes (passes c) w out answer after) (λ d. d .n) w out c long room (none-bad w bits)
@@ -75,48 +78,62 @@ module _ (number : ℕ) {c : Code} (code : named number ≡ known c) (w out : Li
 
   -- a codeword within t of the word is the answer
   near-is-answered : (v : List ℕ) → Within c w v
-      → (ofDecoded answer ≡ accepted (differ v w) 0) × (after ≡ v ++ drop (c .n) out)
+      → (ofWord answer ≡ acceptedWord (differ v w) (places v w)) × (after ≡ v ++ drop (c .n) out)
   near-is-answered v within = go passed
     where
-      go : Decodes (passes c) w out answer after → (ofDecoded answer ≡ accepted (differ v w) 0) × (after ≡ v ++ drop (c .n) out)
+      go : Decodes (passes c) w out answer after → (ofWord answer ≡ acceptedWord (differ v w) (places v w)) × (after ≡ v ++ drop (c .n) out)
       go (inr h) = absurd (h .none v within)
       go (inl m) =
           let same = only-codeword number code long (m .within) within in (
-            m .tells ∙ ap (λ (l : List ℕ). accepted (differ l w) 0) same,
+            m .tells ∙ ap (λ (l : List ℕ). acceptedWord (differ l w) (places l w)) same,
             m .left ∙ ap (λ (l : List ℕ). l ++ drop (c .n) out) same,
           )
 
   -- a word further than t away is not
-  far-is-not : (v : List ℕ) → c .t < differ v w → ofDecoded answer .number ≡ 0 → take (c .n) after ≡ v → ⊥
+  far-is-not : (v : List ℕ) → c .t < differ v w → ofWord answer .told .number ≡ 0 → take (c .n) after ≡ v → ⊥
   far-is-not v far zero e = go passed
     where
       go : Decodes (passes c) w out answer after → ⊥
-      go (inr h) = let z : _≡_ {A = ℕ} 9 0 = ap (λ (t : Told). t .number) (sym (h .tells)) ∙ zero in omega arith
+      go (inr h) = let z : _≡_ {A = ℕ} 9 0 = ap (λ (t : ToldWord). t .told .number) (sym (h .tells)) ∙ zero in omega arith
       go (inl m) =
           let same : m .codeword ≡ v = sym (take-at (m .codeword) (drop (c .n) out) (c .n) (m .within .codeword .long)) ∙ ap (take (c .n)) (sym (m .left)) ∙ e in
           let near : differ v w ≤ c .t = rw same at (m .within .near) in
           omega arith
 
+  -- where m bits are answered as mended, the first m entries of the list name their places in the word: flipped there, it is what was written
+  pub places-named : (m : ℕ) → ofDecoded (answer .answer) ≡ accepted m 0 → Names (answer .places) w (take (c .n) after) m
+  places-named m told = go passed
+    where
+      go : Decodes (passes c) w out answer after → Names (answer .places) w (take (c .n) after) m
+      go (inr h) =
+          let z : _≡_ {A = ℕ} 9 0 = ap (λ (t : ToldWord). t .told .number) (sym (h .tells)) ∙ ap (λ (t : Told). t .number) told in absurd (omega arith)
+      go (inl h) =
+          let written : take (c .n) after ≡ h .codeword
+          = ap (take (c .n)) (h .left) ∙ take-at (h .codeword) (drop (c .n) out) (c .n) (h .within .codeword .long) in
+          let count : m ≡ differ (h .codeword) w = ap (λ (t : Told). t .mended) (sym told) ∙ ap (λ (t : ToldWord). t .told .mended) (h .tells) in
+          rw (written, count)
+          (names (h .codeword) w (h .within .codeword .bits) bits (h .within .codeword .long ∙ sym long) (ap (λ (t : ToldWord). t .places) (h .tells)))
+
 -- ---- the sentences of demand 3, by name
 
-module _ (number : ℕ) {c : Code} (code : named number ≡ known c) (out : List ℕ) (room : c .n ≤ length out) (answer : Decoded) (after : List ℕ) where
-  -- a codeword decodes to itself, with count 0
+module _ (number : ℕ) {c : Code} (code : named number ≡ known c) (out : List ℕ) (room : c .n ≤ length out) (answer : DecodedWord) (after : List ℕ) where
+  -- a codeword decodes to itself, with count 0 and no place
   pub codeword-decodes : (v : List ℕ) → Codeword c v → Decoding number v out answer after
-      → (ofDecoded answer ≡ accepted 0 0) × (after ≡ v ++ drop (c .n) out)
+      → (ofWord answer ≡ acceptedWord 0 []) × (after ≡ v ++ drop (c .n) out)
   codeword-decodes v codeword decoding =
       let z = differ-self v in
       let a = near-is-answered number code v out (codeword .bits) (codeword .long) room answer after decoding v (record { codeword = codeword; near = omega arith }) in
-      (a .0 ∙ ap (λ (m : ℕ). accepted m 0) z, a .1)
+      (a .0 ∙ ap₂ acceptedWord z (places-self v), a .1)
 
   module _ (m : List ℕ) (bits : Bits m) (long : length m ≡ c .k) (w : List ℕ) (w-bits : Bits w) (w-long : length w ≡ c .n)
       (decoding : Decoding number w out answer after) where
-    -- encode, flip any at most t places, decode: the codeword comes back, and the count is the number of flips
+    -- encode, flip any at most t places, decode: the codeword comes back, the count is the number of flips, and the list names them
     pub hits-are-mended : differ (encoded c m) w ≤ c .t
-        → (ofDecoded answer ≡ accepted (differ (encoded c m) w) 0) × (after ≡ encoded c m ++ drop (c .n) out)
+        → (ofWord answer ≡ acceptedWord (differ (encoded c m) w) (places (encoded c m) w)) × (after ≡ encoded c m ++ drop (c .n) out)
     hits-are-mended near =
         near-is-answered number code w out w-bits w-long room answer after decoding (encoded c m)
         (record { codeword = encoding-codeword number code m bits long; near = near })
 
     -- with more than t flipped, the old codeword is never the answer
-    pub hits-beyond : c .t < differ (encoded c m) w → ofDecoded answer .number ≡ 0 → take (c .n) after ≡ encoded c m → ⊥
+    pub hits-beyond : c .t < differ (encoded c m) w → ofWord answer .told .number ≡ 0 → take (c .n) after ≡ encoded c m → ⊥
     hits-beyond far = far-is-not number code w out w-bits w-long room answer after decoding (encoded c m) far

@@ -7,15 +7,16 @@ use Prim.Native.Nat.{ℕ, _<_}
 use native.Mathlib.Decide.{decLt, ℕ-discrete}
 use native.Mathlib.Omega.{arith}
 use lib.ListN.{length, drop}
-use Rattle.answers.specs.Answers.{accepted}
+use Rattle.answers.specs.Answers.{acceptedWord}
 use Rattle.answers.specs.Checks.{Checked, fails, passes}
-use Rattle.answers.proofs.Telling.{written-same, decoded-same}
+use Rattle.answers.proofs.Telling.{written-same, word-same}
 use Rattle.bits.specs.Words.{firstBad, differ}
+use Rattle.bits.specs.Places.{places}
 use Rattle.bch.specs.Codes.{Code, known, code1, code2, code3}
 use Rattle.bch.specs.Promise.{checkedBy, checked, Encodes, Encoding, Decodes, Decoding, Mended}
 use Rattle.bch.specs.Held.{Rooted}
 use Rattle.answers.specs.declared.Written.{Written}
-use Rattle.answers.specs.declared.Decoded.{Decoded}
+use Rattle.answers.specs.declared.DecodedWord.{DecodedWord}
 use Rattle.bch.proofs.Verdicts.{unknown-code, wrong-length, no-room, not-a-bit, all-pass}
 use Rattle.bch.proofs.Generators.{rooted1, rooted2, rooted3}
 use Rattle.bch.proofs.Uniqueness.{unique}
@@ -59,26 +60,27 @@ module _ (word out : List ℕ) (a b : Written) (u v : List ℕ) where
 
 -- ---- decode
 
-module _ (word out : List ℕ) (a b : Decoded) (u v : List ℕ) where
+module _ (word out : List ℕ) (a b : DecodedWord) (u v : List ℕ) where
   abbrev SameDecoded : Checked Code → Type 0
   SameDecoded k = Decodes k word out a u → Decodes k word out b v → (a ≡ b) × (u ≡ v)
 
   one-mended : (c : Code) → Rooted c → length word ≡ c .n → Mended c word out a u → Mended c word out b v → (a ≡ b) × (u ≡ v)
   one-mended c rooted e p q =
       let same = unique rooted e (p .within) (q .within) in
-      let count : accepted (differ (p .codeword) word) 0 ≡ accepted (differ (q .codeword) word) 0 = ap (λ (l : List ℕ). accepted (differ l word) 0) same in
+      let told : acceptedWord (differ (p .codeword) word) (places (p .codeword) word) ≡ acceptedWord (differ (q .codeword) word) (places (q .codeword) word)
+      = ap (λ (l : List ℕ). acceptedWord (differ l word) (places l word)) same in
       let memory : p .codeword ++ drop (c .n) out ≡ q .codeword ++ drop (c .n) out = ap (λ (l : List ℕ). l ++ drop (c .n) out) same in
-      (decoded-same a b (p .tells ∙ count ∙ sym (q .tells)), p .left ∙ memory ∙ sym (q .left))
+      (word-same a b (p .tells ∙ told ∙ sym (q .tells)), p .left ∙ memory ∙ sym (q .left))
 
   one-answer : (c : Code) → Rooted c → length word ≡ c .n → SameDecoded (passes c)
   one-answer c rooted e (inl p) (inl q) = one-mended c rooted e p q
   one-answer c rooted e (inl p) (inr q) = absurd (q .none (p .codeword) (p .within))
   one-answer c rooted e (inr p) (inl q) = absurd (p .none (q .codeword) (q .within))
   one-answer c rooted e (inr p) (inr q) =
-      (decoded-same a b (p .tells ∙ sym (q .tells)), p .left ∙ sym (q .left))
+      (word-same a b (p .tells ∙ sym (q .tells)), p .left ∙ sym (q .left))
 
   pub decode-once : (c : ℕ) → Decoding c word out a u → Decoding c word out b v → (a ≡ b) × (u ≡ v)
   decode-once =
       by-check SameDecoded (λ d. d .n) word out
-      (λ number place p q. (decoded-same a b (p .0 ∙ sym (q .0)), p .1 ∙ sym (q .1)))
+      (λ number place p q. (word-same a b (p .0 ∙ sym (q .0)), p .1 ∙ sym (q .1)))
       one-answer

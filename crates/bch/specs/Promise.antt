@@ -1,4 +1,4 @@
--- What encode and decode promise: for every code number, word and lent list, the answer and what the list holds after.
+-- What encode and decode promise: for every code number, word and lent list, the answer and what the list holds after. Of decode the answer has the places mended.
 -- Demand 3 is `Mended` and `Hopeless`: a codeword is answered exactly when one lies within t.
 -- Assumes nothing.
 use mathlib.Core.Path.{_≡_}
@@ -8,11 +8,12 @@ use Prim.Native.Nat.{ℕ}
 use lib.Dec.{eqb, ltb}
 use lib.ListN.{length, drop}
 use mathlib.Core.Bool.{cond}
-use Rattle.answers.specs.Answers.{accepted, refused, ofWritten, ofDecoded}
+use Rattle.answers.specs.Answers.{accepted, refused, ofWritten, ofWord, acceptedWord, refusedWord}
 use Rattle.answers.specs.Checks.{Checked, fails, passes}
 use Rattle.answers.specs.declared.Written.{Written}
-use Rattle.answers.specs.declared.Decoded.{Decoded}
+use Rattle.answers.specs.declared.DecodedWord.{DecodedWord}
 use Rattle.bits.specs.Words.{firstBad, differ}
+use Rattle.bits.specs.Places.{places}
 use Rattle.bch.specs.Codes.{Code, Named, known, unknown, named, encoded, Within}
 
 -- ---- the checks 1, 2, 3 and 4, which give the code
@@ -40,23 +41,23 @@ Encoding c word out = Encodes (checked c (λ d. d .k) word out) word out
 
 -- ---- decode
 
--- some codeword lies within t of the word: it is answered, and the count is the number of places that differ
-pub record Mended (c : Code) (word out : List ℕ) (answer : Decoded) (after : List ℕ) : Type 0 where
+-- some codeword lies within t of the word: it is answered, with the number of places that differ, and the list of them
+pub record Mended (c : Code) (word out : List ℕ) (answer : DecodedWord) (after : List ℕ) : Type 0 where
   pub codeword : List ℕ
   pub within : Within c word codeword
-  pub tells : ofDecoded answer ≡ accepted (differ codeword word) 0
+  pub tells : ofWord answer ≡ acceptedWord (differ codeword word) (places codeword word)
   pub left : after ≡ codeword ++ drop (c .n) out
 
 -- no codeword lies within t of the word: it is refused as uncorrectable, and nothing is changed
-pub record Hopeless (c : Code) (word out : List ℕ) (answer : Decoded) (after : List ℕ) : Type 0 where
+pub record Hopeless (c : Code) (word out : List ℕ) (answer : DecodedWord) (after : List ℕ) : Type 0 where
   pub none : (v : List ℕ) → Within c word v → ⊥
-  pub tells : ofDecoded answer ≡ refused 9 0
+  pub tells : ofWord answer ≡ refusedWord 9 0
   pub left : after ≡ out
 
-abbrev pub Decodes : Checked Code → List ℕ → List ℕ → Decoded → List ℕ → Type 0
-Decodes (fails number place) word out answer after = (ofDecoded answer ≡ refused number place) × (after ≡ out)
+abbrev pub Decodes : Checked Code → List ℕ → List ℕ → DecodedWord → List ℕ → Type 0
+Decodes (fails number place) word out answer after = (ofWord answer ≡ refusedWord number place) × (after ≡ out)
 Decodes (passes c) word out answer after = Mended c word out answer after ⊎ Hopeless c word out answer after
 
--- decode(c, word, out): the answer, and `out` after
-abbrev pub Decoding : ℕ → List ℕ → List ℕ → Decoded → List ℕ → Type 0
+-- decode(c, word, out): the answer, with the places, and `out` after
+abbrev pub Decoding : ℕ → List ℕ → List ℕ → DecodedWord → List ℕ → Type 0
 Decoding c word out = Decodes (checked c (λ d. d .n) word out) word out

@@ -64,7 +64,7 @@ pub differ-nil : (w : List ℕ) → differ [] w ≡ length w
 unfolding differ
 differ-nil w = refl
 
-differ-to-nil : (v : List ℕ) → differ v [] ≡ length v
+pub differ-to-nil : (v : List ℕ) → differ v [] ≡ length v
 unfolding differ
 differ-to-nil [] = refl
 differ-to-nil (v ∷ vs) = refl

@@ -2,6 +2,7 @@
 pub mod Digits
 pub mod Sums
 pub mod Distances
+pub mod Placing
 pub mod Remainders
 pub mod Numbers
 pub mod Octets

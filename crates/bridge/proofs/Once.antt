@@ -9,8 +9,8 @@ use Rattle.payload_a.proofs.OnceA.{send-a-once, receive-a-once}
 use Rattle.payload_b.proofs.OnceB.{send-b-once, receive-b-once}
 use Rattle.answers.specs.Answers.{ofWritten, ofDecoded, ofReceivedA, ofReceivedB}
 use Rattle.answers.specs.declared.Written.{Written}
-use Rattle.answers.specs.declared.Decoded.{Decoded}
-use Rattle.answers.specs.declared.ReceivedA.{ReceivedA}
+use Rattle.answers.specs.declared.DecodedWord.{DecodedWord}
+use Rattle.answers.specs.declared.ReceivedBurst.{ReceivedBurst}
 use Rattle.answers.specs.declared.ReceivedB.{ReceivedB}
 use Rattle.bridge.specs.Calls.{answerOf, answerAOf}
 use Rattle.bridge.specs.Calls.{EncodeCall, DecodeCall, SendACall, ReceiveACall, SendBCall, ReceiveBCall, SymbolsBCall}
@@ -24,10 +24,13 @@ module _ {c : ℕ} {word out : List ℕ} {r s : Answer} {u v : List ℕ} where
       let same = encode-once word out (p .answer) (q .answer) u v c (p .promise) (q .promise) in
       (p .told ∙ ap (λ (a : Written). answerOf (ofWritten a)) (same .0) ∙ sym (q .told), same .1)
 
-  pub decode-call-once : DecodeCall c word out r u → DecodeCall c word out s v → (r ≡ s) × (u ≡ v)
+  pub decode-call-once : {ps qs : List ℕ} → DecodeCall c word out r u ps → DecodeCall c word out s v qs → (r ≡ s) × (u ≡ v) × (ps ≡ qs)
   decode-call-once p q =
-      let same = decode-once word out (p .answer) (q .answer) u v c (p .promise) (q .promise) in
-      (p .told ∙ ap (λ (a : Decoded). answerOf (ofDecoded a)) (same .0) ∙ sym (q .told), same .1)
+      let same = decode-once word out (p .answer) (q .answer) u v c (p .promise) (q .promise) in (
+        p .told ∙ ap (λ (a : DecodedWord). answerOf (ofDecoded (a .answer))) (same .0) ∙ sym (q .told),
+        same .1,
+        p .list ∙ ap (λ (a : DecodedWord). a .places) (same .0) ∙ sym (q .list),
+      )
 
 module _ {mode : ℕ} {frame : List ℕ} {is qs : List ℤ} {r s : Answer} {is1 qs1 is2 qs2 : List ℤ} where
   pub send-a-call-once : SendACall mode frame is qs r is1 qs1 → SendACall mode frame is qs s is2 qs2 → (r ≡ s) × (is1 ≡ is2) × (qs1 ≡ qs2)
@@ -35,11 +38,16 @@ module _ {mode : ℕ} {frame : List ℕ} {is qs : List ℤ} {r s : Answer} {is1 
       let same = send-a-once mode frame is qs (p .answer) (q .answer) is1 qs1 is2 qs2 (p .promise) (q .promise) in
       (p .told ∙ ap (λ (a : Written). answerOf (ofWritten a)) (same .0) ∙ sym (q .told), same .1, same .2)
 
-module _ {mode : ℕ} {is qs : List ℤ} {area : List ℕ} {r s : AnswerA} {u v : List ℕ} where
-  pub receive-a-call-once : ReceiveACall mode is qs area r u → ReceiveACall mode is qs area s v → (r ≡ s) × (u ≡ v)
+module _ {mode : ℕ} {is qs : List ℤ} {area : List ℕ} {r s : AnswerA} {u v first1 second1 first2 second2 : List ℕ} where
+  pub receive-a-call-once : ReceiveACall mode is qs area r u first1 second1 → ReceiveACall mode is qs area s v first2 second2
+      → (r ≡ s) × (u ≡ v) × (first1 ≡ first2) × (second1 ≡ second2)
   receive-a-call-once p q =
-      let same = receive-a-once area (p .answer) (q .answer) u v mode is qs (p .promise) (q .promise) in
-      (p .told ∙ ap (λ (a : ReceivedA). answerAOf (ofReceivedA a)) (same .0) ∙ sym (q .told), same .1)
+      let same = receive-a-once area (p .answer) (q .answer) u v mode is qs (p .promise) (q .promise) in (
+        p .told ∙ ap (λ (a : ReceivedBurst). answerAOf (ofReceivedA (a .answer))) (same .0) ∙ sym (q .told),
+        same .1,
+        p .first-list ∙ ap (λ (a : ReceivedBurst). a .first) (same .0) ∙ sym (q .first-list),
+        p .second-list ∙ ap (λ (a : ReceivedBurst). a .second) (same .0) ∙ sym (q .second-list),
+      )
 
 module _ {mode : ℕ} {frame scheme : List ℕ} {is qs : List ℤ} {r s : Answer} {is1 qs1 is2 qs2 : List ℤ} where
   pub send-b-call-once : SendBCall mode frame scheme is qs r is1 qs1 → SendBCall mode frame scheme is qs s is2 qs2 → (r ≡ s) × (is1 ≡ is2) × (qs1 ≡ qs2)

@@ -8,8 +8,8 @@ use Rattle.answers.specs.Answers.{ofWritten, ofDecoded, ofReceivedA, ofReceived
 use Rattle.answers.specs.Checks.{Checked, fails, passes}
 use Rattle.answers.specs.declared.Told.{Told}
 use Rattle.answers.specs.declared.Written.{Written}
-use Rattle.answers.specs.declared.Decoded.{Decoded}
-use Rattle.answers.specs.declared.ReceivedA.{ReceivedA}
+use Rattle.answers.specs.declared.DecodedWord.{DecodedWord}
+use Rattle.answers.specs.declared.ReceivedBurst.{ReceivedBurst}
 use Rattle.answers.specs.declared.ReceivedB.{ReceivedB}
 use Rattle.bch.specs.Promise.{Encoding, Decoding}
 use Rattle.payload_a.specs.PromiseA.{SendingA, ReceivingA}
@@ -38,11 +38,12 @@ pub record EncodeCall (c : ℕ) (word out : List ℕ) (r : Answer) (after : List
   pub promise : Encoding c word out answer after
   pub told : r ≡ answerOf (ofWritten answer)
 
--- ortkaveq_decode(c, word, out): the answer, and `out` after
-pub record DecodeCall (c : ℕ) (word out : List ℕ) (r : Answer) (after : List ℕ) : Type 0 where
-  pub answer : Decoded
+-- ortkaveq_decode(c, word, out, places): the answer, and `out` and `places` after
+pub record DecodeCall (c : ℕ) (word out : List ℕ) (r : Answer) (after places : List ℕ) : Type 0 where
+  pub answer : DecodedWord
   pub promise : Decoding c word out answer after
-  pub told : r ≡ answerOf (ofDecoded answer)
+  pub told : r ≡ answerOf (ofDecoded (answer .answer))
+  pub list : places ≡ answer .places
 
 -- ortkaveq_send_a(mode, frame, i, q): the answer, and `i` and `q` after
 pub record SendACall (mode : ℕ) (frame : List ℕ) (is qs : List ℤ) (r : Answer) (is' qs' : List ℤ) : Type 0 where
@@ -50,11 +51,13 @@ pub record SendACall (mode : ℕ) (frame : List ℕ) (is qs : List ℤ) (r : Ans
   pub promise : SendingA mode frame is qs answer is' qs'
   pub told : r ≡ answerOf (ofWritten answer)
 
--- ortkaveq_receive_a(mode, i, q, area): the answer, and `area` after
-pub record ReceiveACall (mode : ℕ) (is qs : List ℤ) (area : List ℕ) (r : AnswerA) (after : List ℕ) : Type 0 where
-  pub answer : ReceivedA
+-- ortkaveq_receive_a(mode, i, q, area, first, second): the answer, and `area`, `first` and `second` after
+pub record ReceiveACall (mode : ℕ) (is qs : List ℤ) (area : List ℕ) (r : AnswerA) (after first second : List ℕ) : Type 0 where
+  pub answer : ReceivedBurst
   pub promise : ReceivingA mode is qs area answer after
-  pub told : r ≡ answerAOf (ofReceivedA answer)
+  pub told : r ≡ answerAOf (ofReceivedA (answer .answer))
+  pub first-list : first ≡ answer .first
+  pub second-list : second ≡ answer .second
 
 -- ortkaveq_send_b(mode, frame, scheme, i, q): the answer, and `i` and `q` after
 pub record SendBCall (mode : ℕ) (frame scheme : List ℕ) (is qs : List ℤ) (r : Answer) (is' qs' : List ℤ) : Type 0 where

@@ -3,6 +3,7 @@
 ghost use mathlib.Core.Path.{_≡_};
 ghost use Prim.Native.Nat.{_^_, _<_};
 ghost use Rattle.bridge.specs.Calls.{answerOf, answerAOf, EncodeCall, DecodeCall, SendACall, ReceiveACall, SendBCall, ReceiveBCall, SymbolsBCall};
+use answers::PLACES;
 use answers::Told;
 use payload_b::plan;
 use payload_b::plan::Verdict;
@@ -40,12 +41,21 @@ pub extern "C" fn ortkaveq_encode(code: u8, word: &[u8], out: &mut [u8]) -> Answ
     answer_of(answers::of_written(encoder::encode(code, word, out)))
 }
 
-// Writes the n bits of the codeword that differs from the n bits of word in at most t places, if there is one.
+// Writes the n bits of the codeword that differs from the n bits of word in at most t places, if there is one, and the list of those places, all 0 in a refusal.
 #[no_mangle]
-pub extern "C" fn ortkaveq_decode(code: u8, word: &[u8], out: &mut [u8]) -> Answer
-    ensures { λ r. ⌜ DecodeCall code (now (word .entry)) (now (out .entry)) r (now (out .exit)) ⌝ }
+pub extern "C" fn ortkaveq_decode(
+    code: u8,
+    word: &[u8],
+    out: &mut [u8],
+    places: &mut [u16; PLACES],
+) -> Answer
+    ensures { λ r. ⌜ DecodeCall code (now (word .entry)) (now (out .entry)) r (now (out .exit)) (now (places .exit)) ⌝ }
 {
-    answer_of(answers::of_decoded(decoder::decode(code, word, out)))
+    let decoded = decoder::decode(code, word, out);
+    let answer = decoded.answer;
+    let list = decoded.places;
+    *places = list;
+    answer_of(answers::of_decoded(answer))
 }
 
 // Sends a frame of Payload A: writes 512 elements of I and of Q.
@@ -56,12 +66,26 @@ pub extern "C" fn ortkaveq_send_a(mode: u8, frame: &[u8], i: &mut [i16], q: &mut
     answer_of(answers::of_written(sender_a::send_a(mode, frame, i, q)))
 }
 
-// Receives a frame of Payload A from 512 elements of I and of Q: writes its bytes to the first of the area.
+// Receives a frame of Payload A from 512 elements of I and of Q: writes its bytes to the first of the area, and the lists of the places mended in each half, all
+// 0 in a refusal.
 #[no_mangle]
-pub extern "C" fn ortkaveq_receive_a(mode: u8, i: &[i16], q: &[i16], area: &mut [u8]) -> AnswerA
-    ensures { λ r. ⌜ ReceiveACall mode (now (i .entry)) (now (q .entry)) (now (area .entry)) r (now (area .exit)) ⌝ }
+pub extern "C" fn ortkaveq_receive_a(
+    mode: u8,
+    i: &[i16],
+    q: &[i16],
+    area: &mut [u8],
+    first: &mut [u16; PLACES],
+    second: &mut [u16; PLACES],
+) -> AnswerA
+    ensures { λ r. ⌜ ReceiveACall mode (now (i .entry)) (now (q .entry)) (now (area .entry)) r (now (area .exit)) (now (first .exit)) (now (second .exit)) ⌝ }
 {
-    answer_a_of(answers::of_received_a(receiver_a::receive_a(mode, i, q, area)))
+    let received = receiver_a::receive_a(mode, i, q, area);
+    let answer = received.answer;
+    let of_first = received.first;
+    let of_second = received.second;
+    *first = of_first;
+    *second = of_second;
+    answer_a_of(answers::of_received_a(answer))
 }
 
 // Sends a frame of Payload B by a scheme: writes 256 elements of I and of Q for each OFDM symbol needed.

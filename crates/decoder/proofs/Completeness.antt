@@ -18,6 +18,7 @@ use Rattle.field.proofs.Values.{a, series, a-nonzero, a-differ, a-inverse}
 use Rattle.bits.specs.Words.{Bits, differ}
 use Rattle.bch.specs.Codes.{Code, Within}
 use Rattle.decoder.specs.Locators.{valueAt, Turned}
+use Rattle.decoder.specs.declared.search.Flips.{Flips}
 use Rattle.decoder.specs.Syndromes.{Syndromes}
 use Rattle.bch.specs.Held.{Rooted}
 use Rattle.bits.proofs.Digits.{bits-at, bits-from}
@@ -41,7 +42,7 @@ by-index n P h p l = let e : n - suc (n - suc p) ≡ p = omega arith in rw e at 
 
 -- ---- the word that is flipped where the locator vanishes
 
-module _ {locator : List ℕ} {len : ℕ} {w copy : List ℕ} {m : ℕ} (bits : Bits w) (turned : Turned locator len w copy m) where
+module _ {locator : List ℕ} {len : ℕ} {w copy : List ℕ} {flips : Flips} (bits : Bits w) (turned : Turned locator len w copy flips) where
   turned-bit : (i : ℕ) → i < length w → getD copy i 0 < 2
   turned-bit i l =
       by-cases (same? (valueAt locator (suc len) (512 - length w) i) 𝟘) (λ z. rw (turned .flipped i l z) (omega arith))
@@ -64,7 +65,7 @@ module _ {locator : List ℕ} {len : ℕ} {w copy : List ℕ} {m : ℕ} (bits : 
     changed-places = weight-roots GF512 (length w) (error copy w) _ (by-index (length w) _ changed-at)
 
     -- no more places are flipped than the locator is long
-    pub few : series locator 0 ≢ 𝟘 → m ≤ len
+    pub few : series locator 0 ≢ 𝟘 → flips .count ≤ len
     few lead =
         let e = weight-error turned-pair in
         let h = changed-places in
@@ -105,7 +106,7 @@ module _ {c : Code} (rooted : Rooted c)
       pub exact : len ≡ differ v w
       exact = len-is-weight GF512 a a-nonzero (length w) order (error v w) error-known error-light found ∙ weight-error pair
 
-      module _ {copy : List ℕ} {m : ℕ} (turned : Turned locator len w copy m) where
+      module _ {copy : List ℕ} {flips : Flips} (turned : Turned locator len w copy flips) where
         flipped-at : (i : ℕ) → i < length w → valueAt locator (suc len) (512 - length w) i ≡ 𝟘 → getD v i 0 ≡ getD copy i 0
         flipped-at i l z =
             other-bit (getD v i 0) (getD w i 0) (bits-at v (pair .first-bits) i) (bits-at w bits i)

@@ -1,18 +1,20 @@
--- Terms added to the entries of a list: to the entry k the power a^(e + d k), read from the table of powers; so a term of a locator, and all of them.
+-- Terms added to the entries of a list: to the entry k the power a^(e + d k), read from the table of powers, or to each the same; so a term of a locator, and
+-- all of them.
 -- Assumes nothing.
 use mathlib.Core.Path.{_≡_, refl, sym, ap, ap₂, _∙_}
 use mathlib.Core.Logic.{_≢_}
 use mathlib.Core.List.{List, _++_}
-use Prim.Native.Nat.{ℕ, zero, suc, _+_, _*_, _%_, _≤_, _<_}
+use Prim.Native.Nat.{ℕ, zero, suc, _+_, _-_, _*_, _%_, _≤_, _<_}
 use native.Mathlib.Nat.{mod-lt}
 use native.Mathlib.Decide.{decLt, ℕ-discrete}
 use native.Mathlib.Omega.{arith}
+use borrow.Rule.Slice.PartMut.{postOf}
 use lib.Bits.{bitXor, xor-lt}
 use lib.Dec.{lit<}
-use lib.ListN.{length, take, getD, set, replicate, length-set, length-replicate, length-append, List·getD-append}
+use lib.ListN.{length, take, getD, set, replicate, length-set, length-replicate, length-append, length-drop, List·getD-append}
 use lib.Seq.{length-take-le, getD-set-same, getD-set-other}
-use Rattle.algebra.proofs.Fields.{add-zero, zero-add, add-assoc, zero-mul}
-use Rattle.algebra.proofs.Polynomials.{ev-zero, ev-last}
+use Rattle.algebra.proofs.Fields.{add-zero, zero-add, add-assoc, zero-mul, mul-zero}
+use Rattle.algebra.proofs.Polynomials.{ev-zero, ev-suc, ev-last}
 use Rattle.algebra.proofs.Powers.{pow, pow-add, pow-mul}
 use Rattle.field.specs.Field.{power, product}
 use Rattle.field.specs.Tables.{powerTable}
@@ -49,41 +51,44 @@ module _ (e d i at : ℕ) (is : power at ≡ power (e + d * i)) where
 abbrev pub plusAt : List ℕ → ℕ → ℕ → List ℕ
 plusAt l i p = set l i (bitXor (getD l i 0) p)
 
-module _ (e d : ℕ) (old : List ℕ) where
-  -- the first n entries have their terms
+-- the terms a^(e + d k)
+abbrev pub powersBy : ℕ → ℕ → ℕ → ℕ
+powersBy e d k = power (e + d * k)
+
+module _ (t : ℕ → ℕ) (old : List ℕ) where
+  -- the first n entries have their terms: the entry k has t k
   pub record Begun (new : List ℕ) (n : ℕ) : Type 0 where
     pub long : length new ≡ length old
-    pub done : (k : ℕ) → k < n → getD new k 0 ≡ bitXor (getD old k 0) (power (e + d * k))
+    pub done : (k : ℕ) → k < n → getD new k 0 ≡ bitXor (getD old k 0) (t k)
     pub kept : (k : ℕ) → n ≤ k → getD new k 0 ≡ getD old k 0
 
   pub begun-none : Begun old 0
   begun-none = record { long = refl; done = λ k h. absurd (omega arith); kept = λ k h. refl }
 
   -- p, the term of the entry i, has been added there, and n comes after i
-  pub begun-more : {new new' : List ℕ} {i p : ℕ} → Begun new i → i < length old → new' ≡ plusAt new i p → p ≡ power (e + d * i) → (n : ℕ) → n ≡ suc i
-      → Begun new' n
+  pub begun-more : {new new' : List ℕ} {i p : ℕ} → Begun new i → i < length old → new' ≡ plusAt new i p → p ≡ t i → (n : ℕ) → n ≡ suc i → Begun new' n
   begun-more {new} {new'} {i} {p} b low there is n next = rw there (record {
     long = length-set new i _ ∙ b .long;
     done = λ k h. done-at k h (decLt k i);
     kept = λ k h. getD-set-other new i k _ 0 (omega arith) ∙ b .kept k (omega arith);
   })
     where
-      done-at : (k : ℕ) → k < n → Dec (k < i) → getD (plusAt new i p) k 0 ≡ bitXor (getD old k 0) (power (e + d * k))
+      done-at : (k : ℕ) → k < n → Dec (k < i) → getD (plusAt new i p) k 0 ≡ bitXor (getD old k 0) (t k)
       done-at k h (yes l) = getD-set-other new i k _ 0 (omega arith) ∙ b .done k l
       done-at k h (no l) =
           let same : k ≡ i = omega arith in
           rw same (getD-set-same new i _ 0 (omega (arith, b .long)) ∙ ap₂ bitXor (b .kept i (omega arith)) is)
 
-  pub begun-all : {new : List ℕ} {n : ℕ} → Begun new n → length old ≤ n → Added e d old new
+  pub begun-all : {new : List ℕ} {n : ℕ} → ((k : ℕ) → t k < 512) → Begun new n → length old ≤ n → Plus (λ k. element-of (t k)) old new
   unfolding series
-  begun-all {new} {n} b all = record {
+  begun-all {new} {n} low b all = record {
     long = b .long;
-    each = λ k h. ap element-of (b .done k (omega arith)) ∙ of-xor _ _ ∙ ap (GF512 .add (series old k)) (of-power _);
+    each = λ k h. ap element-of (b .done k (omega arith)) ∙ of-xor _ _;
     small = λ s k. small-at s k (decLt k n);
   }
     where
       small-at : Small old → (k : ℕ) → Dec (k < n) → getD new k 0 < 512
-      small-at s k (yes h) = rw (b .done k h) (xor-lt 9 _ _ (s k) (power-lt _))
+      small-at s k (yes h) = rw (b .done k h) (xor-lt 9 _ _ (s k) (low k))
       small-at s k (no h) = rw (b .kept k (omega arith)) (s k)
 
 -- ---- sums of what is added
@@ -102,6 +107,9 @@ plus-both u v e = record {
 plus-same : {f g : ℕ → GF512 .Element} {old new : List ℕ} → Plus f old new → ((p : ℕ) → f p ≡ g p) → Plus g old new
 plus-same u e = record { long = u .long; each = λ p k. u .each p k ∙ ap (GF512 .add _) (e p); small = u .small }
 
+pub begun-added : (e d : ℕ) {old new : List ℕ} {n : ℕ} → Begun (powersBy e d) old new n → length old ≤ n → Added e d old new
+begun-added e d b all = plus-same (begun-all _ _ (λ k. power-lt _) b all) (λ k. of-power _)
+
 -- ---- sums that began at zero
 
 -- the first n entries are the values of f
@@ -115,6 +123,14 @@ nothing-at zero m i = refl
 nothing-at (suc n) zero i = refl
 nothing-at (suc n) (suc m) zero = refl
 nothing-at (suc n) (suc m) (suc i) = nothing-at n m i
+
+-- the first n of m sums changed, there are m still
+pub whole : (n m : ℕ) {zs : List ℕ} (ys : List ℕ) → zs ≡ replicate m 0 → n ≤ m → length ys ≡ length (take (n - 0) zs) → length (ys ++ postOf 0 (n - 0) zs) ≡ m
+whole n m {zs} ys z fit e =
+    let all : length zs ≡ m = ap length z ∙ length-replicate m 0 in
+    let front : length (take (n - 0) zs) ≡ n - 0 = length-take-le (n - 0) zs (omega arith) in
+    let rest : length (postOf 0 (n - 0) zs) ≡ length zs - (n - 0) = length-drop (n - 0) zs in
+    length-append ys (postOf 0 (n - 0) zs) ∙ omega arith
 
 -- f added to the first n of m sums of nothing
 module _ {f : ℕ → GF512 .Element} (n m : ℕ) {zs ys : List ℕ} (z : zs ≡ replicate m 0) (fit : n ≤ m) (u : Plus f (take n zs) ys) where
@@ -181,8 +197,10 @@ module _ {logs powers : List ℕ} (lent : Lent logs powers) (c : ℕ) (h : c < 5
 -- ---- all terms of a locator
 
 module _ (locator : List ℕ) (from : ℕ) where
-  pub values-none : (l : List ℕ) → Plus (valueAt locator 0 from) l l
-  values-none l = plus-none l (λ p. ev-zero GF512 (series locator) _)
+  -- the first term is the same whatever x is
+  pub values-first : {old new : List ℕ} → Plus (λ p. element-of (getD locator 0 0)) old new → Plus (valueAt locator 1 from) old new
+  unfolding series
+  values-first u = plus-same u (λ p. sym (ev-suc GF512 0 (series locator) _ ∙ simp (ev-zero, mul-zero, add-zero)))
 
   pub values-more : {n k : ℕ} {old mid new : List ℕ} → Plus (valueAt locator n from) old mid
       → Plus (termAt (getD locator n 0) n from) mid new → k ≡ suc n → Plus (valueAt locator k from) old new

@@ -1,3 +1,4 @@
 pub mod Locators
+pub mod Picks
 pub mod Candidates
 pub mod Syndromes

@@ -4,7 +4,7 @@
 use mathlib.Core.Path.{_≡_}
 use mathlib.Core.Logic.{_≢_}
 use mathlib.Core.List.{List}
-use Prim.Native.Nat.{ℕ, suc, _+_, _-_, _*_, _<_}
+use Prim.Native.Nat.{ℕ, suc, _+_, _-_, _*_, _<_, _≤_}
 use lib.ListN.{length, getD}
 use Rattle.algebra.proofs.Powers.{pow}
 use Rattle.algebra.proofs.Polynomials.{ev}
@@ -12,8 +12,11 @@ use Rattle.algebra.proofs.Berlekamp.{Found}
 use Rattle.field.specs.Tables.{logTable, powerTable}
 use Rattle.field.proofs.Elements.{GF512, element-of}
 use Rattle.field.proofs.Values.{a, series}
+use Rattle.answers.specs.Answers.{listed}
 use Rattle.bits.specs.Words.{differ}
+use Rattle.bits.specs.Places.{places}
 use Rattle.decoder.specs.declared.locator.State.{State}
+use Rattle.decoder.specs.declared.search.Flips.{Flips}
 
 -- the lent tables are the field's
 pub record Lent (logs powers : List ℕ) : Type 0 where
@@ -51,9 +54,10 @@ pub record After (s : List ℕ) (r : ℕ) (q : State) : Type 0 where
   pub found : Found GF512 (series s) r (series (q .locator)) (series (q .other)) (q .len) (element-of (q .b))
   pub small : Small (q .locator)
 
--- `copy` is the word, flipped where the locator vanishes, and m is the number of those places
-pub record Turned (locator : List ℕ) (len : ℕ) (word copy : List ℕ) (m : ℕ) : Type 0 where
+-- `copy` is the word, flipped where the locator vanishes; the number of those places, and the list of them, where it has room for all
+pub record Turned (locator : List ℕ) (len : ℕ) (word copy : List ℕ) (flips : Flips) : Type 0 where
   pub long : length copy ≡ length word
   pub flipped : (i : ℕ) → i < length word → valueAt locator (suc len) (512 - length word) i ≡ GF512 .zero → getD copy i 0 ≡ 1 - getD word i 0
   pub kept : (i : ℕ) → i < length word → valueAt locator (suc len) (512 - length word) i ≢ GF512 .zero → getD copy i 0 ≡ getD word i 0
-  pub count : m ≡ differ copy word
+  pub count : flips .count ≡ differ copy word
+  pub list : flips .count ≤ 16 → flips .places ≡ listed (places copy word)

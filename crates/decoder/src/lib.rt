@@ -7,7 +7,7 @@
 //              hit is tried before any others
 //   syndrome   the values of that remainder at a, a^2, .., a^2t, eight digits at a time, by the table of digit_values
 //   locator    the shortest recurrence of the syndromes, by Berlekamp and Massey, without inverses
-//   search     the places of the shortened word at which the locator vanishes, flipped in a copy
+//   search     the places of the shortened word at which the locator vanishes: listed, and flipped in a copy
 //   terms      the terms of a polynomial, added up at many powers of a at once, for search
 //
 // The copy is answered only if it is a codeword, by the remainder again, and differs in at most t places. What the algebra shows is that
@@ -21,17 +21,17 @@ mod search;
 mod syndrome;
 mod terms;
 
-use answers::Decoded;
+use answers::DecodedWord;
 use bch::checks;
 use bch::checks::Verdict;
 
-// Writes the n bits of the codeword that differs from the n bits of word in at most t places, if there is one.
-pub fn decode(code: u8, word: &[u8], out: &mut [u8]) -> Decoded
+// Writes the n bits of the codeword that differs from the n bits of word in at most t places, if there is one, and answers those places.
+pub fn decode(code: u8, word: &[u8], out: &mut [u8]) -> DecodedWord
     ensures { λ r. ⌜ Decoding code (now (word .entry)) (now (out .entry)) r (now (out .exit)) ⌝ }
 {
     let verdict = checks::judged(code, true, word, out);
     match verdict {
-        Verdict::Fails(why) => Decoded::Refused(why),
+        Verdict::Fails(why) => answers::no_word(why),
         Verdict::Passes(c) => mending::answer(c, word, out),
     }
 }

@@ -1,18 +1,24 @@
 // One word of a code that is held: itself where it is a codeword, else a copy with places flipped.
 ghost use mathlib.Core.Path.{_≡_};
-ghost use Prim.Native.Nat.{_-_, _*_};
+ghost use mathlib.Core.List.{[], _∷_};
+ghost use Prim.Native.Nat.{_-_, _*_, _<_};
 ghost use lib.ListN.{length};
+ghost use Rattle.answers.specs.Answers.{listed};
 ghost use Rattle.answers.specs.Checks.{passes};
+ghost use Rattle.answers.specs.declared.Decoded.the-variants.{Accepted};
 ghost use Rattle.bch.specs.Promise.{Decodes};
 ghost use Rattle.bch.specs.Registers.{contents, tops};
 ghost use Rattle.bch.specs.Held.{codeOf, Fitting};
-ghost use Rattle.decoder.specs.Candidates.{leftover, Single, Attempt, Settles};
+ghost use Rattle.decoder.specs.Candidates.{leftover, Single, Settles};
 ghost use Rattle.decoder.specs.Locators.{Lent};
 ghost use Rattle.decoder.specs.Syndromes.{Syndromes};
 use crate::locator;
 use crate::search;
+use crate::search::Flips;
 use crate::syndrome;
 use answers::Decoded;
+use answers::DecodedWord;
+use answers::PLACES;
 use answers::Refusal;
 use bch::code::Held;
 use bch::register;
@@ -31,29 +37,33 @@ fn leftover(c: Held, bits: &[u8]) -> Register
     )
 }
 
-// What an attempt gives: a copy with so many places flipped, or nothing.
-pub enum Tried {
-    Flipped(usize),
-    Nothing,
-}
-
 // The word itself where it is a codeword, else a copy with places flipped, if one is found that is.
-pub(crate) fn answer(c: Held, bits: &[u8], out: &mut [u8]) -> Decoded
+pub(crate) fn answer(c: Held, bits: &[u8], out: &mut [u8]) -> DecodedWord
     requires { ⌜ Fitting c (c .n) (now bits) (now out) ⌝ }
     ensures { λ r. ⌜ Decodes (passes (codeOf c)) (now (bits .entry)) (now (out .entry)) r (now (out .exit)) ⌝ }
 {
     let left = leftover(c, bits);
     if register::is_zero(left) {
         bytes::copy(bits, out);
-        return Decoded::Accepted(0);
+        return unchanged();
     }
     let n = c.n;
     let mut copy = zeros();
     mend(c, left, bits, &mut copy[0..n], out)
 }
 
+// Nothing is mended.
+fn unchanged() -> DecodedWord
+    ensures { λ r. ⌜ r ≡ record { answer = Accepted 0; places = listed [] } ⌝ }
+{
+    DecodedWord {
+        answer: Decoded::Accepted(0),
+        places: [0; PLACES],
+    }
+}
+
 // A copy with one place flipped, if that is a codeword; else the one with the places flipped that the locator gives.
-fn mend(c: Held, left: Register, bits: &[u8], copy: &mut [u8], out: &mut [u8]) -> Decoded
+fn mend(c: Held, left: Register, bits: &[u8], copy: &mut [u8], out: &mut [u8]) -> DecodedWord
     requires { ⌜ Fitting c (c .n) (now bits) (now out) ⌝ }
     requires { ⌜ (length (now copy) ≡ c .n) × (contents left ≡ leftover c (now bits)) ⌝ }
     ensures { λ r. ⌜ Decodes (passes (codeOf c)) (now (bits .entry)) (now (out .entry)) r (now (out .exit)) ⌝ }
@@ -62,8 +72,9 @@ fn mend(c: Held, left: Register, bits: &[u8], copy: &mut [u8], out: &mut [u8]) -
     let powers = field::power_table();
     let s = syndrome::syndromes(&logs, &powers, left, c.n - c.k, c.t);
     let first = single(c, &logs, &powers, &s, bits, copy, out);
-    match first {
-        Decoded::Accepted(m) => Decoded::Accepted(m),
+    let answer = first.answer;
+    match answer {
+        Decoded::Accepted(_) => first,
         Decoded::Refused(_) => several(c, &logs, &powers, &s, bits, copy, out),
     }
 }
@@ -79,7 +90,7 @@ fn single(
     bits: &[u8],
     copy: &mut [u8],
     out: &mut [u8],
-) -> Decoded
+) -> DecodedWord
     requires { ⌜ Fitting c (c .n) (now bits) (now out) × (length (now copy) ≡ c .n) × Lent (now logs) (now powers) ⌝ }
     ensures { λ r. ⌜ Single (codeOf c) (now (bits .entry)) (now (out .entry)) r (now (out .exit)) × (length (now (copy .exit)) ≡ c .n) ⌝ }
 {
@@ -90,14 +101,24 @@ fn single(
                 let place = c.n - 1 - e;
                 bytes::copy(bits, copy);
                 copy[place] = 1 - bits[place];
-                return settle(c, 1, copy, out);
+                return settle(c, one(place), copy, out);
             }
         }
     }
-    Decoded::Refused(Refusal::Uncorrectable(0))
+    answers::no_word(Refusal::Uncorrectable(0))
 }
 
-// The copy that an attempt gives, if it gives one and that is a codeword.
+// One place flipped.
+fn one(place: usize) -> Flips
+    requires { ⌜ place < 508 ⌝ }
+    ensures { λ r. ⌜ r ≡ record { count = 1; places = listed (place ∷ []) } ⌝ }
+{
+    let mut places = [0u16; PLACES];
+    places[0] = place as u16;
+    Flips { count: 1, places }
+}
+
+// A copy with the places flipped that the locator gives, if that is a codeword; none where the locator is longer than t.
 fn several(
     c: Held,
     logs: &[u16; 512],
@@ -106,16 +127,19 @@ fn several(
     bits: &[u8],
     copy: &mut [u8],
     out: &mut [u8],
-) -> Decoded
+) -> DecodedWord
     requires { ⌜ Fitting c (c .n) (now bits) (now out) × (length (now copy) ≡ c .n) ⌝ }
     requires { ⌜ Lent (now logs) (now powers) × Syndromes (tops (c .n - c .k) (leftover c (now bits))) (c .t * 2) (now s) ⌝ }
     ensures { λ r. ⌜ Decodes (passes (codeOf c)) (now (bits .entry)) (now (out .entry)) r (now (out .exit)) ⌝ }
 {
-    let tried = attempt(c, logs, powers, s, bits, copy);
-    match tried {
-        Tried::Nothing => Decoded::Refused(Refusal::Uncorrectable(0)),
-        Tried::Flipped(m) => settle(c, m, copy, out),
+    let found = locator::shortest(logs, powers, s, c.t * 2);
+    let len = found.len;
+    if c.t < len {
+        return answers::no_word(Refusal::Uncorrectable(0));
     }
+    let lam = found.locator;
+    let flips = search::flip(logs, powers, &lam, len, bits, copy);
+    settle(c, flips, copy, out)
 }
 
 // Room for a word of any of the codes.
@@ -125,36 +149,18 @@ fn zeros() -> [u8; 508]
     [0u8; 508]
 }
 
-// Writes the copy and answers m, if it is a codeword.
-fn settle(c: Held, m: usize, copy: &[u8], out: &mut [u8]) -> Decoded
+// Writes the copy and answers what was flipped there, if it is a codeword.
+fn settle(c: Held, flips: Flips, copy: &[u8], out: &mut [u8]) -> DecodedWord
     requires { ⌜ Fitting c (c .n) (now copy) (now out) ⌝ }
-    ensures { λ r. ⌜ Settles (codeOf c) (now (copy .entry)) (now (out .entry)) m r (now (out .exit)) ⌝ }
+    ensures { λ r. ⌜ Settles (codeOf c) (now (copy .entry)) (now (out .entry)) flips r (now (out .exit)) ⌝ }
 {
     if register::is_zero(leftover(c, copy)) {
         bytes::copy(copy, out);
-        return Decoded::Accepted(m);
+        let places = flips.places;
+        return DecodedWord {
+            answer: Decoded::Accepted(flips.count),
+            places,
+        };
     }
-    Decoded::Refused(Refusal::Uncorrectable(0))
-}
-
-// Flips in copy the places that the locator gives, unless it is longer than t.
-fn attempt(
-    c: Held,
-    logs: &[u16; 512],
-    powers: &[u16; 1022],
-    s: &[u16; 32],
-    bits: &[u8],
-    copy: &mut [u8],
-) -> Tried
-    requires { ⌜ Fitting c (c .n) (now bits) (now copy) × (length (now copy) ≡ c .n) ⌝ }
-    requires { ⌜ Lent (now logs) (now powers) × Syndromes (tops (c .n - c .k) (leftover c (now bits))) (c .t * 2) (now s) ⌝ }
-    ensures { λ r. ⌜ Attempt (codeOf c) (now (bits .entry)) r (now (copy .exit)) ⌝ }
-{
-    let found = locator::shortest(logs, powers, s, c.t * 2);
-    let len = found.len;
-    if c.t < len {
-        return Tried::Nothing;
-    }
-    let lam = found.locator;
-    Tried::Flipped(search::flip(logs, powers, &lam, len, bits, copy))
+    answers::no_word(Refusal::Uncorrectable(0))
 }

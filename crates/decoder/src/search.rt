@@ -1,12 +1,20 @@
 // The places at which the locator vanishes.
 ghost use mathlib.Core.Path.{_≡_};
-ghost use Prim.Native.Nat.{suc, _-_, _<_, _≤_};
+ghost use mathlib.Core.Bool.{cond};
+ghost use Prim.Native.Nat.{suc, _+_, _-_, _<_, _≤_};
 ghost use lib.Dec.{eqb};
 ghost use lib.ListN.{length, replicate};
-ghost use mathlib.Core.Bool.{cond};
 ghost use Rattle.bits.specs.Words.{Bits};
 ghost use Rattle.decoder.specs.Locators.{Lent, Small, Plus, termAt, valueAt, Turned};
+ghost use Rattle.decoder.specs.Picks.{NoneIn, oneMore, Picked};
 use crate::terms;
+use answers::PLACES;
+
+// The places that are flipped in a copy: how many, and the list of the first 16.
+pub struct Flips {
+    pub count: usize,
+    pub places: [u16; PLACES],
+}
 
 // Adds the term c x^i at x = a^(from + p) to each sums[p]. 0 has no logarithm below 511, and its term is 0.
 fn term(logs: &[u16; 512], powers: &[u16; 1022], c: u16, i: usize, from: usize, sums: &mut [u16])
@@ -31,7 +39,8 @@ fn values(
     requires { ⌜ Lent (now logs) (now powers) × (len < 34) × Small (now locator) × (from ≤ 512) ⌝ }
     ensures { λ _. ⌜ Plus (valueAt (now (locator .entry)) (suc len) from) (now (sums .entry)) (now (sums .exit)) ⌝ }
 {
-    let mut i: usize = 0;
+    terms::constant(locator[0], sums);
+    let mut i: usize = 1;
     while i <= len {
         term(logs, powers, locator[i], i, from, sums);
         i += 1;
@@ -45,19 +54,79 @@ fn none() -> [u16; 508]
     [0u16; 508]
 }
 
-// The bit, flipped where v is 0.
-fn flipped(v: u16, bit: u8) -> u8
-    requires { ⌜ bit < 2 ⌝ }
-    ensures { λ r. ⌜ r ≡ cond (eqb v 0) (1 - bit) bit ⌝ }
-{
-    if v == 0 { 1 - bit } else { bit }
-}
-
 // 1 where v is 0.
-fn hit(v: u16) -> usize
+fn hit(v: u16) -> u16
     ensures { λ r. ⌜ r ≡ cond (eqb v 0) 1 0 ⌝ }
 {
     if v == 0 { 1 } else { 0 }
+}
+
+// How many of eight sums are 0, from p on.
+fn zeros(sums: &[u16], p: usize) -> u16
+    requires { ⌜ p + 8 ≤ length (now sums) ⌝ }
+    ensures { λ r. ⌜ (r ≡ 0 → NoneIn (now (sums .entry)) p (p + 8)) ⌝ }
+{
+    let mut n: u16 = 0;
+    let mut j: usize = 0;
+    while j < 8 {
+        n += hit(sums[p + j]);
+        j += 1;
+    }
+    n
+}
+
+// One place more, behind those listed, where there is room.
+fn listed(flips: Flips, i: usize) -> Flips
+    requires { ⌜ (flips .count ≤ 508) × (i < 508) ⌝ }
+    ensures { λ r. ⌜ r ≡ oneMore flips i ⌝ }
+{
+    let count = flips.count;
+    let mut places = flips.places;
+    if count < PLACES {
+        places[count] = i as u16;
+    }
+    Flips {
+        count: count + 1,
+        places,
+    }
+}
+
+// Flips in copy, and lists, the places from `from` up to below `end` at which the sum is 0.
+fn pick(sums: &[u16], word: &[u8], from: usize, end: usize, copy: &mut [u8], before: Flips) -> Flips
+    requires { ⌜ Bits (now word) × (length (now word) ≤ 508) × (from ≤ end) × (end ≤ length (now word)) × (length (now word) ≤ length (now sums)) ⌝ }
+    requires { ⌜ Picked (now sums) (now word) from (now copy) before ⌝ }
+    ensures { λ r. ⌜ Picked (now (sums .entry)) (now (word .entry)) end (now (copy .exit)) r ⌝ }
+{
+    let mut flips = before;
+    let mut i = from;
+    while i < end {
+        if sums[i] == 0 {
+            copy[i] = 1 - word[i];
+            flips = listed(flips, i);
+        }
+        i += 1;
+    }
+    flips
+}
+
+// All places of a word, of which copy is one: eight at which no sum is 0 are passed over at once.
+fn pick_all(sums: &[u16], word: &[u8], copy: &mut [u8]) -> Flips
+    requires { ⌜ Bits (now word) × (length (now word) ≤ 508) × (length (now word) ≤ length (now sums)) × (now copy ≡ now word) ⌝ }
+    ensures { λ r. ⌜ Picked (now (sums .entry)) (now (word .entry)) (length (now (word .entry))) (now (copy .exit)) r ⌝ }
+{
+    let n = word.len();
+    let mut flips = Flips {
+        count: 0,
+        places: [0; PLACES],
+    };
+    let mut i: usize = 0;
+    while i + 8 <= n {
+        if zeros(sums, i) != 0 {
+            flips = pick(sums, word, i, i + 8, copy, flips);
+        }
+        i += 8;
+    }
+    pick(sums, word, i, n, copy, flips)
 }
 
 // Copies word, with each place flipped at which the locator vanishes; place i of n stands for a^(n-1-i), whose inverse is a^(512-n+i).
@@ -68,21 +137,14 @@ pub(crate) fn flip(
     len: usize,
     word: &[u8],
     copy: &mut [u8],
-) -> usize
+) -> Flips
     requires { ⌜ Lent (now logs) (now powers) × (len < 34) × Small (now locator) ⌝ }
     requires { ⌜ Bits (now word) × (length (now word) ≤ 508) × (length (now copy) ≡ length (now word)) ⌝ }
-    ensures { λ m. ⌜ Turned (now (locator .entry)) len (now (word .entry)) (now (copy .exit)) m ⌝ }
+    ensures { λ r. ⌜ Turned (now (locator .entry)) len (now (word .entry)) (now (copy .exit)) r ⌝ }
 {
     let n = word.len();
     let mut sums = none();
     values(logs, powers, locator, len, 512 - n, &mut sums[0..n]);
-    let mut count: usize = 0;
-    let mut i: usize = 0;
-    while i < n {
-        let v = sums[i];
-        count += hit(v);
-        copy[i] = flipped(v, word[i]);
-        i += 1;
-    }
-    count
+    bytes::copy(word, copy);
+    pick_all(&sums, word, copy)
 }

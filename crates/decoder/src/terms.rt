@@ -4,7 +4,8 @@ ghost use Prim.Native.Nat.{_<_, _%_};
 ghost use lib.Bits.{bitXor};
 ghost use lib.ListN.{length, getD, set};
 ghost use Rattle.field.specs.Tables.{powerTable};
-ghost use Rattle.decoder.specs.Locators.{Added};
+ghost use Rattle.field.proofs.Elements.{element-of};
+ghost use Rattle.decoder.specs.Locators.{Plus, Added};
 
 // The exponent below 511 for one below 1022.
 fn reduced(e: usize) -> usize
@@ -20,6 +21,18 @@ fn add_at(powers: &[u16; 1022], at: usize, sums: &mut [u16], i: usize)
     ensures { λ _. ⌜ now (sums .exit) ≡ set (now (sums .entry)) i (bitXor (getD (now (sums .entry)) i 0) (getD (now (powers .entry)) at 0)) ⌝ }
 {
     sums[i] = sums[i] ^ powers[at];
+}
+
+// Adds the same element to each sum: the term of x^0, whatever x is.
+pub(crate) fn constant(c: u16, sums: &mut [u16])
+    requires { ⌜ c < 512 ⌝ }
+    ensures { λ _. ⌜ Plus (λ p. element-of c) (now (sums .entry)) (now (sums .exit)) ⌝ }
+{
+    let mut i: usize = 0;
+    while i < sums.len() {
+        sums[i] = sums[i] ^ c;
+        i += 1;
+    }
 }
 
 // Adds a^(e + d i) to each sums[i], four a turn.

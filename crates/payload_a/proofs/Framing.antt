@@ -7,11 +7,10 @@ use native.Mathlib.Omega.{arith}
 use lib.ListN.{length, take, drop, length-append, length-drop, take-append-drop}
 use lib.Seq.{take-all, take-at, drop-at, drop-drop, take-append-le, drop-append-le, length-take-le}
 use Rattle.bits.specs.Words.{Bits, differ}
-use Rattle.bits.proofs.Digits.{bits-take, bits-drop}
+use Rattle.bits.proofs.Digits.{bits-take, bits-drop, bits-append}
 use Rattle.bits.proofs.Distances.{differ-append}
-use Rattle.bits.proofs.Digits.{bits-append}
 use Rattle.payload_a.specs.Segments.{field1, field2, field3, symbolOf, segment, framed, carriedBy, protectedIn, carried, protected, fields}
-use Rattle.payload_a.proofs.Fields.{sent, bits-symbol, length-sent, carried-sent, protected-sent, length-carried-by, length-protected-in}
+use Rattle.payload_a.proofs.Fields.{sent, bits-symbol, bits-carried-by, length-sent, carried-sent, protected-sent, length-carried-by, length-protected-in}
 
 -- ---- as received
 
@@ -36,6 +35,12 @@ unfolding carried
 length-carried bits l =
     length-append (carriedBy (take 420 bits)) (carriedBy (drop 420 bits))
     ∙ ap₂ _+_ (length-carried-by (take 420 bits) (length-take-le 420 bits (omega arith))) (length-carried-by (drop 420 bits) (simp length-drop (omega arith)))
+
+pub bits-carried : (bits : List ℕ) → Bits bits → Bits (carried bits)
+unfolding carried
+bits-carried bits h =
+    bits-append (carriedBy (take 420 bits)) (carriedBy (drop 420 bits)) (bits-carried-by (take 420 bits) (bits-take 420 bits h))
+    (bits-carried-by (drop 420 bits) (bits-drop 420 bits h))
 
 pub length-protected : (bits : List ℕ) → length bits ≡ 840 → length (protected bits) ≡ 56
 unfolding protected

@@ -15,10 +15,9 @@ use lib.IntN.{ℤ}
 use lib.ListN.{length, replicate, take, drop}
 use lib.Seq.{take-at, drop-at}
 use Rattle.ground.proofs.Xors.{xor-cancel}
-use Rattle.answers.specs.Answers.{refused, ofReceivedA}
+use Rattle.answers.specs.Answers.{ofBurst, refusedBurst, noBurst}
 use Rattle.answers.specs.Checks.{Checked}
-use Rattle.answers.specs.declared.ReceivedA.{ReceivedA}
-use Rattle.answers.specs.declared.ReceivedA.the-variants.{Refused}
+use Rattle.answers.specs.declared.ReceivedBurst.{ReceivedBurst}
 use Rattle.answers.specs.declared.Refusal.the-variants.{WrongCheck}
 use Rattle.bits.specs.Words.{Bits, digits}
 use Rattle.bits.specs.Bytes.{bitsOf}
@@ -158,13 +157,13 @@ never-both (suc m) w long f g p q =
 earlier-mendable : (w g : List ℕ) → Fits (earlierWire 1) w g → (b : ℕ) → b < 2 → Mendable code3 b w
 earlier-mendable w g = fits-mendable (earlierWire 1) code3 refl refl (λ f l b. earlier-codeword 0 f l b) w g
 
-module _ (mode : ℕ) (is qs : List ℤ) (area : List ℕ) (call : Legal mode is qs area) (answer : ReceivedA) (after : List ℕ)
+module _ (mode : ℕ) (is qs : List ℤ) (area : List ℕ) (call : Legal mode is qs area) (answer : ReceivedBurst) (after : List ℕ)
     (receiving : ReceivingA mode is qs area answer after) (g : List ℕ) (fits : Fits (earlierWire mode) (carried (dibits (received 2 is qs))) g) where
   -- where a frame of the earlier rule fits, clean or with as many hits as are mended, the call is refused with 10, and the area is as it was
-  pub earlier-refused : (ofReceivedA answer ≡ refused 10 0) × (after ≡ area)
+  pub earlier-refused : (ofBurst answer ≡ refusedBurst 10 0) × (after ≡ area)
   earlier-refused =
       let word = carried (dibits (received 2 is qs)) in
-      let made = Refused WrongCheck in
+      let made = noBurst WrongCheck in
       let P : Checked Unit → Type 0 = λ k. Receives k mode (dibits (received 2 is qs)) area made area in
       let there : ReceivingA mode is qs area made area
       = receivable P mode is qs area (call .known) (call .points) (call .room) (legal P is qs (omega (arith, call .empty)) (omega (arith, call .legal))
@@ -175,4 +174,4 @@ module _ (mode : ℕ) (is qs : List ℤ) (area : List ℕ) (call : Legal mode is
         left = refl;
       })))) in
       let same = receive-a-once area answer made after area mode is qs receiving there in
-      (ap ofReceivedA (same .0), same .1)
+      (ap ofBurst (same .0), same .1)

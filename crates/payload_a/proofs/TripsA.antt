@@ -4,40 +4,44 @@
 use mathlib.Core.Path.{_≡_, refl, sym, ap, ap₂, _∙_}
 use mathlib.Core.Logic.{inl, inr}
 use mathlib.Core.Bool.{true, _&&_}
-use mathlib.Core.List.{List, _++_}
+use mathlib.Core.List.{List, [], _++_}
 use Prim.Native.Nat.{ℕ, _*_, _≤_, _<_}
 use native.Mathlib.Omega.{arith}
 use borrow.Author.Tests.{leb-true, eqb-true}
 use lib.Dec.{eqb, leb, ltb}
 use lib.IntN.{ℤ}
-use lib.ListN.{length, take, drop, length-append}
-use lib.Seq.{take-at}
-use Rattle.answers.specs.Answers.{accepted, ofWritten, ofReceivedA}
+use lib.ListN.{length, take, drop, length-append, length-drop}
+use lib.Seq.{take-at, length-take-le}
+use Rattle.answers.specs.Answers.{accepted, ofWritten, ofReceivedA, listed, ToldBurst, ofBurst, burstOf}
 use Rattle.answers.specs.Checks.{Checked, fails, passes}
 use Rattle.answers.specs.declared.Told.{Told}
 use Rattle.answers.specs.declared.Written.{Written}
-use Rattle.answers.specs.declared.ReceivedA.{ReceivedA}
-use Rattle.answers.specs.declared.ReceivedA.the-variants.{Accepted}
-use Rattle.answers.proofs.Telling.{received-a-same, by-test, not-refused}
-use Rattle.bits.specs.Words.{differ}
+use Rattle.answers.specs.declared.ReceivedBurst.{ReceivedBurst}
+use Rattle.answers.proofs.Telling.{by-test, not-refused}
+use Rattle.bits.specs.Words.{Bits, differ}
+use Rattle.bits.specs.Places.{places}
 use Rattle.bits.specs.Bytes.{Bytes}
-use Rattle.bits.proofs.Distances.{differ-self}
+use Rattle.bits.proofs.Digits.{bits-take, bits-drop}
+use Rattle.bits.proofs.Distances.{differ-self, differ-zero}
+use Rattle.bits.proofs.Placing.{places-self}
 use Rattle.points.specs.declared.Point.{Point}
 use Rattle.points.specs.Constellations.{levelI, levelQ}
 use Rattle.points.specs.Dqpsk.{dibits, strayAt}
+use Rattle.points.proofs.Turns.{dibits-bits-from}
 use Rattle.symbols.specs.Grids.{placed, received, firstOccupied, room}
 use Rattle.symbols.proofs.Readings.{received-take, occupied-take}
 use Rattle.symbols.proofs.Placings.{length-placed, placed-occupied}
 use Rattle.symbols.proofs.Rooms.{room-enough}
+use Rattle.bch.proofs.Listings.{Names, names}
 use Rattle.payload.specs.Wire.{blockAt, Fits}
 use Rattle.payload.proofs.Wires.{fits-clean}
 use Rattle.payload_a.specs.Segments.{rowBits, framed, carried, protected, fields}
 use Rattle.payload_a.specs.CodedA.{bytesA, codedA, pointsA, sentI, sentQ}
 use Rattle.payload_a.specs.PromiseA.{elementsA, placesA, sendChecked, Sends, SendingA}
-use Rattle.payload_a.specs.PromiseA.{receiveChecked, wireA, Goes, Answered, Receives, ReceivingA}
+use Rattle.payload_a.specs.PromiseA.{receiveChecked, wireA, placesIn, Goes, Answered, Receives, ReceivingA}
 use Rattle.payload_a.proofs.Coding.{bits-codedA, length-codedA}
-use Rattle.payload_a.proofs.Framing.{bits-framed, length-framed, carried-framed, protected-framed}
-use Rattle.payload_a.proofs.Turnings.{none-stray, bits-back}
+use Rattle.payload_a.proofs.Framing.{bits-framed, length-framed, length-carried, bits-carried, carried-framed, protected-framed}
+use Rattle.payload_a.proofs.Turnings.{none-stray, bits-back, length-read}
 use Rattle.payload_a.proofs.VerdictsA.{receivable, legal}
 use Rattle.payload_a.proofs.OnceA.{receive-a-once}
 
@@ -104,10 +108,22 @@ module _ (mode : ℕ) (frame : List ℕ) (known : mode ≤ 1) (long : length fra
   protected-again : protected (again mode frame) ≡ fields
   protected-again = ap protected read-back ∙ protected-framed (codedA mode frame) coded-long
 
+-- ---- halves
+
+half-long : (b : ℕ) → b < 2 → (l : List ℕ) → length l ≡ 784 → length (blockAt rowBits b l) ≡ 392
+half-long b low l e = length-take-le 392 (drop (392 * b) l) (omega (arith, length-drop (392 * b) l))
+
+half-bits : (b : ℕ) (l : List ℕ) → Bits l → Bits (blockAt rowBits b l)
+half-bits b l bits = bits-take 392 (drop (392 * b) l) (bits-drop (392 * b) l bits)
+
+bits-read : (is qs : List ℤ) → Bits (dibits (received 2 is qs))
+unfolding dibits
+bits-read is qs = dibits-bits-from (received 2 is qs) 0
+
 -- ---- where points are accepted
 
-module _ (mode : ℕ) (is qs : List ℤ) (area : List ℕ) (answer : ReceivedA) (after : List ℕ) (receiving : ReceivingA mode is qs area answer after)
-    (mended differing : ℕ) (tells : ofReceivedA answer ≡ accepted mended differing) where
+module _ (mode : ℕ) (is qs : List ℤ) (area : List ℕ) (answer : ReceivedBurst) (after : List ℕ) (receiving : ReceivingA mode is qs area answer after)
+    (mended differing : ℕ) (tells : ofReceivedA (answer .answer) ≡ accepted mended differing) where
   abbrev bits : List ℕ
   bits = dibits (received 2 is qs)
 
@@ -115,17 +131,21 @@ module _ (mode : ℕ) (is qs : List ℤ) (area : List ℕ) (answer : ReceivedA) 
   in-front : (frame : List ℕ) → length frame ≡ bytesA mode → after ≡ frame ++ drop (bytesA mode) area → take (bytesA mode) after ≡ frame
   in-front frame long left = ap (take (bytesA mode)) left ∙ take-at frame (drop (bytesA mode) area) (bytesA mode) long
 
+  -- without the places
+  told : {t : ToldBurst} → ofBurst answer ≡ t → ofReceivedA (answer .answer) ≡ t .told
+  told = ap (λ (t : ToldBurst). t .told)
+
   abbrev Up : Type 0
   Up = (mode ≤ 1) × Goes mode (carried bits) (differ fields (protected bits)) area answer after
 
   goes : Up
   goes =
-      by-receive (λ k. Receives k mode bits area answer after → Up) (λ number place l p. absurd (not-refused tells (p .0) l)) mode is qs area of-answer receiving
+      by-receive (λ k. Receives k mode bits area answer after → Up) (λ number place l p. absurd (not-refused tells (told (p .0)) l)) mode is qs area of-answer receiving
     where
       of-answer : mode ≤ 1 → Answered mode (carried bits) (differ fields (protected bits)) area answer after → Up
       of-answer known (inl p) = (known, p)
-      of-answer known (inr (inl p)) = absurd (not-refused tells (p .tells) (omega arith))
-      of-answer known (inr (inr p)) = absurd (not-refused tells (p .tells) (omega arith))
+      of-answer known (inr (inl p)) = absurd (not-refused tells (told (p .tells)) (omega arith))
+      of-answer known (inr (inr p)) = absurd (not-refused tells (told (p .tells)) (omega arith))
 
   up-is : take (bytesA mode) after ≡ goes .1 .frame
   up-is = in-front (goes .1 .frame) (goes .1 .fits .long) (goes .1 .left)
@@ -139,11 +159,55 @@ module _ (mode : ℕ) (is qs : List ℤ) (area : List ℕ) (answer : ReceivedA) 
       (differ (carried (again mode (take (bytesA mode) after))) (carried bits) ≡ mended)
       × (differ (protected (again mode (take (bytesA mode) after))) (protected bits) ≡ differing)
   sent-again =
-      let counts = sym (goes .1 .tells) ∙ tells in
+      let counts = sym (told (goes .1 .tells)) ∙ tells in
       let f = goes .1 .frame in
       let long = goes .1 .fits .long in
       rw (up-is, carried-again mode f (goes .0) long, protected-again mode f (goes .0) long)
       (ap (λ (told : Told). told .mended) counts, ap (λ (told : Told). told .protected) counts)
+
+  -- and in each half the list names the places of the bits mended: flipped there, the bits received are those that sending again gives
+  abbrev Named : ℕ → List ℕ → List ℕ → Type 0
+  Named half list sent =
+      Names list (blockAt rowBits half (carried bits)) (blockAt rowBits half sent) (differ (blockAt rowBits half sent) (blockAt rowBits half (carried bits)))
+
+  pub sent-places : Named 0 (answer .first) (carried (again mode (take (bytesA mode) after))) × Named 1 (answer .second) (carried (again mode (take (bytesA mode) after)))
+  sent-places =
+      let f = goes .1 .frame in
+      let long = goes .1 .fits .long in
+      rw (up-is, carried-again mode f (goes .0) long)
+      (half 0 (omega arith) (ap (λ (t : ToldBurst). t .first) (goes .1 .tells)), half 1 (omega arith) (ap (λ (t : ToldBurst). t .second) (goes .1 .tells)))
+    where
+      half : (b : ℕ) → b < 2 → {list : List ℕ} → list ≡ listed (placesIn b mode (goes .1 .frame) (carried bits)) → Named b list (codedA mode (goes .1 .frame))
+      half b l =
+          let f = goes .1 .frame in
+          names (blockAt rowBits b (codedA mode f)) (blockAt rowBits b (carried bits))
+          (half-bits b (codedA mode f) (bits-codedA mode f (goes .0) (goes .1 .fits .long))) (half-bits b (carried bits) (bits-carried bits (bits-read is qs)))
+          (half-long b l (codedA mode f) (length-codedA mode f (goes .0) (goes .1 .fits .long))
+          ∙ sym (half-long b l (carried bits) (length-carried bits (length-read is qs))))
+
+-- an uncoded answer lists no place, whatever it is
+module _ (is qs : List ℤ) (area : List ℕ) (answer : ReceivedBurst) (after : List ℕ) where
+  abbrev NoPlace : Type 0
+  NoPlace = (answer .first ≡ listed []) × (answer .second ≡ listed [])
+
+  pub uncoded-places : ReceivingA 0 is qs area answer after → NoPlace
+  uncoded-places =
+      by-receive (λ k. Receives k 0 (dibits (received 2 is qs)) area answer after → NoPlace) (λ number place l p. lists (p .0)) 0 is qs area (λ known. answered)
+    where
+      lists : {t : ToldBurst} → ofBurst answer ≡ t → (answer .first ≡ t .first) × (answer .second ≡ t .second)
+      lists e = (ap (λ (t : ToldBurst). t .first) e, ap (λ (t : ToldBurst). t .second) e)
+
+      none : (frame word : List ℕ) → Fits (wireA 0) word frame → (half : ℕ) → half < 2 → placesIn half 0 frame word ≡ []
+      none frame word fits half l =
+          let same = differ-zero (blockAt rowBits half (codedA 0 frame)) (blockAt rowBits half word) (omega (arith, fits .near half l)) in
+          ap (λ (v : List ℕ). places v (blockAt rowBits half word)) same ∙ places-self (blockAt rowBits half word)
+
+      answered : Answered 0 (carried (dibits (received 2 is qs))) (differ fields (protected (dibits (received 2 is qs)))) area answer after → NoPlace
+      answered (inl p) =
+          let e = lists (p .tells) in
+          (e .0 ∙ ap listed (none (p .frame) _ (p .fits) 0 (omega arith)), e .1 ∙ ap listed (none (p .frame) _ (p .fits) 1 (omega arith)))
+      answered (inr (inl p)) = lists (p .tells)
+      answered (inr (inr p)) = lists (p .tells)
 
 -- ---- a frame goes up exactly when it fits
 
@@ -156,10 +220,10 @@ pub record Legal (mode : ℕ) (is qs : List ℤ) (area : List ℕ) : Type 0 wher
   pub legal : strayAt (received 2 is qs) ≡ placesA
 
 -- a frame goes up: the call is accepted, with so many bits mended and so many protected bits that differ, and the frame stands at the front of the area
-abbrev pub GoesUp : ℕ → List ℕ → ReceivedA → List ℕ → List ℕ → ℕ → ℕ → Type 0
-GoesUp mode area answer after frame mended differing = (ofReceivedA answer ≡ accepted mended differing) × (after ≡ frame ++ drop (bytesA mode) area)
+abbrev pub GoesUp : ℕ → List ℕ → ReceivedBurst → List ℕ → List ℕ → ℕ → ℕ → Type 0
+GoesUp mode area answer after frame mended differing = (ofReceivedA (answer .answer) ≡ accepted mended differing) × (after ≡ frame ++ drop (bytesA mode) area)
 
-module _ (mode : ℕ) (is qs : List ℤ) (area : List ℕ) (call : Legal mode is qs area) (answer : ReceivedA) (after : List ℕ)
+module _ (mode : ℕ) (is qs : List ℤ) (area : List ℕ) (call : Legal mode is qs area) (answer : ReceivedBurst) (after : List ℕ)
     (receiving : ReceivingA mode is qs area answer after) (frame : List ℕ) (bytes : Bytes frame) (long : length frame ≡ bytesA mode) where
   abbrev word : List ℕ
   word = carried (dibits (received 2 is qs))
@@ -168,16 +232,23 @@ module _ (mode : ℕ) (is qs : List ℤ) (area : List ℕ) (call : Legal mode is
   abbrev Near : Type 0
   Near = (block : ℕ) → block < 2 → differ (blockAt rowBits block (codedA mode frame)) (blockAt rowBits block word) ≤ wireA mode .mends
 
-  pub up-when-near : Near → GoesUp mode area answer after frame (differ (codedA mode frame) word) (differ fields (protected (dibits (received 2 is qs))))
-  up-when-near near =
-      let made = Accepted (differ (codedA mode frame) word) (differ fields (protected (dibits (received 2 is qs)))) in
+  -- it is answered so, with the places of each half
+  answered-near : Near
+      → (answer ≡ burstOf (differ (codedA mode frame) word) (differ fields (protected (dibits (received 2 is qs))))
+      (placesIn 0 mode frame word) (placesIn 1 mode frame word))
+      × (after ≡ frame ++ drop (bytesA mode) area)
+  answered-near near =
+      let made = burstOf (differ (codedA mode frame) word) (differ fields (protected (dibits (received 2 is qs))))
+      (placesIn 0 mode frame word) (placesIn 1 mode frame word) in
       let left = frame ++ drop (bytesA mode) area in
       let P : Checked Unit → Type 0 = λ k. Receives k mode (dibits (received 2 is qs)) area made left in
       let there : ReceivingA mode is qs area made left
       = receivable P mode is qs area (call .known) (call .points) (call .room) (legal P is qs (omega (arith, call .empty)) (omega (arith, call .legal))
       (inl (record { frame = frame; fits = record { long = long; bytes = bytes; near = near }; tells = refl; left = refl }))) in
-      let same = receive-a-once area answer made after left mode is qs receiving there in
-      (ap ofReceivedA (same .0), same .1)
+      receive-a-once area answer made after left mode is qs receiving there
+
+  pub up-when-near : Near → GoesUp mode area answer after frame (differ (codedA mode frame) word) (differ fields (protected (dibits (received 2 is qs))))
+  up-when-near near = let same = answered-near near in (ap (λ (r : ReceivedBurst). ofReceivedA (r .answer)) (same .0), same .1)
 
   pub near-when-up : (mended differing : ℕ) → GoesUp mode area answer after frame mended differing → Near
   near-when-up mended differing up = up-fits mode is qs area answer after receiving mended differing (up .0) frame long (up .1) .near
@@ -204,20 +275,20 @@ module _ (mode : ℕ) (frame : List ℕ) (known : mode ≤ 1) (long : length fra
     legal = ap strayAt same-points ∙ none-stray (framed (codedA mode frame)) (length-framed (codedA mode frame) (coded-long mode frame known long));
   }
 
-  came-back : Bytes frame → (answer : ReceivedA) (after : List ℕ) → ReceivingA mode (sentI mode frame ++ is) (sentQ mode frame ++ qs) area answer after
-      → (answer ≡ Accepted 0 0) × (after ≡ frame ++ drop (bytesA mode) area)
+  came-back : Bytes frame → (answer : ReceivedBurst) (after : List ℕ) → ReceivingA mode (sentI mode frame ++ is) (sentQ mode frame ++ qs) area answer after
+      → (answer ≡ burstOf 0 0 [] []) × (after ≡ frame ++ drop (bytesA mode) area)
   came-back bytes answer after receiving =
       let word : carried (dibits points) ≡ codedA mode frame = rw same-points (carried-again mode frame known long) in
       let field : protected (dibits points) ≡ fields = rw same-points (protected-again mode frame known long) in
-      let up = up-when-near mode _ _ area clean-call answer after receiving frame bytes long (rw word (fits-clean (wireA mode) frame long bytes .near)) in
-      (received-a-same answer (Accepted 0 0) (simp (word, field, differ-self) at (up .0)), up .1)
+      let up = answered-near mode _ _ area clean-call answer after receiving frame bytes long (rw word (fits-clean (wireA mode) frame long bytes .near)) in
+      (simp (word, field, differ-self, places-self) at (up .0), up .1)
 
 module _ (mode : ℕ) (frame : List ℕ) (is qs : List ℤ) (sent : Written) (is' qs' : List ℤ) (sending : SendingA mode frame is qs sent is' qs')
-    (written : ofWritten sent ≡ accepted 0 0) (bytes : Bytes frame) (area : List ℕ) (roomy : bytesA mode ≤ length area) (answer : ReceivedA) (after : List ℕ)
+    (written : ofWritten sent ≡ accepted 0 0) (bytes : Bytes frame) (area : List ℕ) (roomy : bytesA mode ≤ length area) (answer : ReceivedBurst) (after : List ℕ)
     (receiving : ReceivingA mode is' qs' area answer after) where
-  -- clean points give back the frame that was sent, with nothing mended and no protected bit that differs
-  pub round-trip : (answer ≡ Accepted 0 0) × (after ≡ frame ++ drop (bytesA mode) area)
+  -- clean points give back the frame that was sent, with nothing mended, no protected bit that differs, and no place listed
+  pub round-trip : (answer ≡ burstOf 0 0 [] []) × (after ≡ frame ++ drop (bytesA mode) area)
   round-trip =
-      by-send (λ k. Sends k mode frame is qs sent is' qs' → (answer ≡ Accepted 0 0) × (after ≡ frame ++ drop (bytesA mode) area))
+      by-send (λ k. Sends k mode frame is qs sent is' qs' → (answer ≡ burstOf 0 0 [] []) × (after ≡ frame ++ drop (bytesA mode) area))
       (λ number place l p. absurd (not-refused written (p .0) l)) mode frame is qs
       (λ k e p. came-back mode frame k e (drop elementsA is) (drop elementsA qs) area roomy bytes answer after (rw (p .1, p .2) at receiving)) sending

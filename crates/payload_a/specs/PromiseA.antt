@@ -9,16 +9,17 @@ use Prim.Native.Nat.{ℕ, _*_, _<_}
 use lib.Dec.{eqb, leb, ltb}
 use lib.IntN.{ℤ}
 use lib.ListN.{length, drop}
-use Rattle.answers.specs.Answers.{accepted, refused, ofWritten, ofReceivedA}
+use Rattle.answers.specs.Answers.{accepted, refused, ofWritten, ofBurst, acceptedBurst, refusedBurst}
 use Rattle.answers.specs.Checks.{Checked, fails, passes}
 use Rattle.answers.specs.declared.Written.{Written}
-use Rattle.answers.specs.declared.ReceivedA.{ReceivedA}
+use Rattle.answers.specs.declared.ReceivedBurst.{ReceivedBurst}
 use Rattle.bits.specs.Words.{differ}
+use Rattle.bits.specs.Places.{places}
 use Rattle.bch.specs.Codes.{code3}
 use Rattle.points.specs.Dqpsk.{dibits, strayAt}
 use Rattle.symbols.specs.Grid.{subCarriers, symbolPoints}
 use Rattle.symbols.specs.Grids.{received, indexOf, firstOccupied, room}
-use Rattle.payload.specs.Wire.{Wire, Fits, Mendable, FirstHopeless}
+use Rattle.payload.specs.Wire.{Wire, blockAt, Fits, Mendable, FirstHopeless}
 use Rattle.payload_a.specs.Segments.{rowBits, carried, protected, fields}
 use Rattle.payload_a.specs.CodedA.{bytesA, codedA, sentI, sentQ}
 
@@ -61,37 +62,42 @@ receiveChecked mode is qs area =
 abbrev pub wireA : ℕ → Wire
 wireA mode = record { bytes = bytesA mode; blocks = 2; size = rowBits; mends = cond (eqb mode 0) 0 (code3 .t); sent = codedA mode }
 
--- a frame that fits goes up, with the number of bits that differ and the number of protected bits that differ
-pub record Goes (mode : ℕ) (bits : List ℕ) (differing : ℕ) (area : List ℕ) (answer : ReceivedA) (area' : List ℕ) : Type 0 where
+-- the places where the block sent for a frame, in the first half or the second, differs from the one received: indices in the half
+abbrev pub placesIn : ℕ → ℕ → List ℕ → List ℕ → List ℕ
+placesIn half mode frame bits = places (blockAt rowBits half (codedA mode frame)) (blockAt rowBits half bits)
+
+-- a frame that fits goes up, with the number of bits that differ, the number of protected bits that differ, and the places of each half
+pub record Goes (mode : ℕ) (bits : List ℕ) (differing : ℕ) (area : List ℕ) (answer : ReceivedBurst) (area' : List ℕ) : Type 0 where
   pub frame : List ℕ
   pub fits : Fits (wireA mode) bits frame
-  pub tells : ofReceivedA answer ≡ accepted (differ (codedA mode frame) bits) differing
+  pub tells : ofBurst answer
+      ≡ acceptedBurst (differ (codedA mode frame) bits) differing (placesIn 0 mode frame bits) (placesIn 1 mode frame bits)
   pub left : area' ≡ frame ++ drop (bytesA mode) area
 
 -- a coded block has no codeword within 16, and every block before it has one
-pub record Hopeless (mode : ℕ) (bits : List ℕ) (area : List ℕ) (answer : ReceivedA) (area' : List ℕ) : Type 0 where
+pub record Hopeless (mode : ℕ) (bits : List ℕ) (area : List ℕ) (answer : ReceivedBurst) (area' : List ℕ) : Type 0 where
   pub coded : mode ≡ 1
   pub block : ℕ
   pub hopeless : FirstHopeless code3 2 bits block
-  pub tells : ofReceivedA answer ≡ refused 9 block
+  pub tells : ofBurst answer ≡ refusedBurst 9 block
   pub left : area' ≡ area
 
 -- each coded block has a codeword within 16, and still no frame fits: the check is wrong
-pub record Wrong (mode : ℕ) (bits : List ℕ) (area : List ℕ) (answer : ReceivedA) (area' : List ℕ) : Type 0 where
+pub record Wrong (mode : ℕ) (bits : List ℕ) (area : List ℕ) (answer : ReceivedBurst) (area' : List ℕ) : Type 0 where
   pub each : mode ≡ 1 → (b : ℕ) → b < 2 → Mendable code3 b bits
   pub none : (frame : List ℕ) → Fits (wireA mode) bits frame → ⊥
-  pub tells : ofReceivedA answer ≡ refused 10 0
+  pub tells : ofBurst answer ≡ refusedBurst 10 0
   pub left : area' ≡ area
 
 -- for 784 bits, and so many protected bits that differ
-abbrev pub Answered : ℕ → List ℕ → ℕ → List ℕ → ReceivedA → List ℕ → Type 0
+abbrev pub Answered : ℕ → List ℕ → ℕ → List ℕ → ReceivedBurst → List ℕ → Type 0
 Answered mode bits differing area answer area' =
     Goes mode bits differing area answer area' ⊎ (Hopeless mode bits area answer area' ⊎ Wrong mode bits area answer area')
 
-abbrev pub Receives : Checked Unit → ℕ → List ℕ → List ℕ → ReceivedA → List ℕ → Type 0
-Receives (fails number place) mode bits area answer area' = (ofReceivedA answer ≡ refused number place) × (area' ≡ area)
+abbrev pub Receives : Checked Unit → ℕ → List ℕ → List ℕ → ReceivedBurst → List ℕ → Type 0
+Receives (fails number place) mode bits area answer area' = (ofBurst answer ≡ refusedBurst number place) × (area' ≡ area)
 Receives (passes _) mode bits area answer area' = Answered mode (carried bits) (differ fields (protected bits)) area answer area'
 
--- receive A(mode, I, Q, area): the answer, and the area after
-abbrev pub ReceivingA : ℕ → List ℤ → List ℤ → List ℕ → ReceivedA → List ℕ → Type 0
+-- receive A(mode, I, Q, area): the answer, with the places, and the area after
+abbrev pub ReceivingA : ℕ → List ℤ → List ℤ → List ℕ → ReceivedBurst → List ℕ → Type 0
 ReceivingA mode is qs area = Receives (receiveChecked mode is qs area) mode (dibits (received 2 is qs)) area

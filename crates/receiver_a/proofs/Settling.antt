@@ -2,21 +2,22 @@
 -- Assumes nothing.
 use mathlib.Core.Path.{_≡_, refl, sym, ap, ap₂, _∙_}
 use mathlib.Core.Bool.{Bool, true, false}
-use mathlib.Core.List.{List, _++_}
+use mathlib.Core.List.{List, [], _++_}
 use mathlib.Core.Logic.{inl, inr}
 use Prim.Native.Nat.{ℕ, _+_, _≤_}
 use native.Mathlib.Omega.{arith}
 use lib.ListN.{length, take, drop, length-append, take-append-drop}
 use lib.Seq.{take-at, drop-at, length-take-le}
-use Rattle.answers.specs.Answers.{accepted}
+use Rattle.answers.specs.Answers.{listed, ToldWord, acceptedBurst, noBurst}
 use Rattle.answers.specs.declared.Refusal.the-variants.{Uncorrectable}
-use Rattle.answers.specs.declared.ReceivedA.the-variants.{Refused}
 use Rattle.answers.specs.declared.Decoded.{Decoded}
 use Rattle.answers.specs.declared.Decoded.the-variants as decoded
-use Rattle.answers.specs.declared.Told.{Told}
+use Rattle.answers.specs.declared.DecodedWord.{DecodedWord}
 use Rattle.bits.specs.Words.{Bits, differ}
+use Rattle.bits.specs.Places.{places}
 use Rattle.bits.proofs.Digits.{bits-take, bits-drop, bits-append}
 use Rattle.bits.proofs.Distances.{differ-self, differ-append}
+use Rattle.bits.proofs.Placing.{places-self}
 use Rattle.bch.specs.Codes.{code3, encoded, Within}
 use Rattle.bch.specs.Promise.{Decoding}
 use Rattle.bch.proofs.Codewords.{by-answer, told}
@@ -45,14 +46,20 @@ kept n area e = ap (λ (p : List ℕ). p ++ drop n area) e ∙ take-append-drop 
 
 -- ---- an uncoded frame
 
+-- where the bits sent are those received, none is mended
+clean : (u : ℕ) (v w : List ℕ) → v ≡ w
+    → acceptedBurst 0 u [] []
+    ≡ acceptedBurst (differ v w) u (places (blockAt rowBits 0 v) (blockAt rowBits 0 w)) (places (blockAt rowBits 1 v) (blockAt rowBits 1 w))
+clean u v w e = rw (e, differ-self w, places-self (blockAt rowBits 0 w), places-self (blockAt rowBits 1 w))
+
 pub uncoded-settled : (w area : List ℕ) (u : ℕ) (right : Bool) (part : List ℕ) → length w ≡ 784 → 94 ≤ length area → Delivered w (take 94 area) right part
-    → Answered 0 w u area (settledAs right 0 u) (part ++ drop 94 area)
+    → Answered 0 w u area (settledAs right 0 u (listed []) (listed [])) (part ++ drop 94 area)
 uncoded-settled w area u true part long room (l, bytes, sent) =
     let e : codedA 0 part ≡ w = coded-uncoded part ∙ sent in
     inl (record {
       frame = part;
       fits = rw e at (fits-clean (wireA 0) part (l ∙ length-take-le 94 area room) bytes);
-      tells = ap (λ (n : ℕ). accepted n u) (sym (ap (λ (v : List ℕ). differ v w) e ∙ differ-self w));
+      tells = clean u (codedA 0 part) w e;
       left = refl;
     })
 uncoded-settled w area u false part long room (same, none) =
@@ -65,18 +72,17 @@ uncoded-settled w area u false part long room (same, none) =
 
 -- ---- a row that decode mends, or not
 
--- the codeword within 16 and the number of places that differ, or there is none
-abbrev pub Mends : List ℕ → List ℕ → Decoded → Type 0
-Mends row v (decoded.Accepted n) = Within code3 row v × (n ≡ differ v row)
-Mends row v (decoded.Refused r) = (v : List ℕ) → Within code3 row v → ⊥
+-- the codeword within 16, the number of places that differ and the list of them, or there is none
+abbrev pub Mends : List ℕ → List ℕ → List ℕ → Decoded → Type 0
+Mends row v list (decoded.Accepted n) = Within code3 row v × (n ≡ differ v row) × (list ≡ listed (places v row))
+Mends row v list (decoded.Refused r) = (v : List ℕ) → Within code3 row v → ⊥
 
-pub row-mended : (row out after : List ℕ) (answer : Decoded) → Bits row → length row ≡ rowBits → length out ≡ rowBits
-    → Decoding 3 row out answer after → Mends row after answer
+pub row-mended : (row out after : List ℕ) (answer : DecodedWord) → Bits row → length row ≡ rowBits → length out ≡ rowBits
+    → Decoding 3 row out answer after → Mends row after (answer .places) (answer .answer)
 row-mended row out after answer bits long room =
-    by-answer 3 refl row out answer after bits long (omega arith) (Mends row after)
-    (λ n m. let e = m .left ∙ covered (m .codeword) out room in
-    (rw e (m .within), ap (λ (t : Told). t .mended) (m .tells) ∙ ap (λ (v : List ℕ). differ v row) (sym e)))
-    (λ r h. h .none)
+    by-answer 3 refl row out answer after bits long (omega arith) (Mends row after (answer .places))
+    (λ h. let e = h .left ∙ covered (h .codeword) out room in rw e (h .within, refl, ap (λ (t : ToldWord). t .places) (h .tells)))
+    (λ h r. h .none)
 
 -- ---- a coded frame
 
@@ -88,7 +94,7 @@ module _ {a b : List ℕ} (rows : Pair rowBits a b) (area : List ℕ) (u : ℕ) 
   second-is = second-block a b (rows .first-long) (rows .second-long)
 
   -- no codeword within 16 of the first block
-  pub first-hopeless : ((v : List ℕ) → Within code3 a v → ⊥) → Answered 1 (a ++ b) u area (Refused (Uncorrectable 0)) area
+  pub first-hopeless : ((v : List ℕ) → Within code3 a v → ⊥) → Answered 1 (a ++ b) u area (noBurst (Uncorrectable 0)) area
   first-hopeless none = inr (inl (record {
     coded = refl;
     block = 0;
@@ -102,7 +108,7 @@ module _ {a b : List ℕ} (rows : Pair rowBits a b) (area : List ℕ) (u : ℕ) 
     first-mendable = (v, rw first-is hv)
 
     -- of the second block only
-    pub second-hopeless : ((w : List ℕ) → Within code3 b w → ⊥) → Answered 1 (a ++ b) u area (Refused (Uncorrectable 1)) area
+    pub second-hopeless : ((w : List ℕ) → Within code3 b w → ⊥) → Answered 1 (a ++ b) u area (noBurst (Uncorrectable 1)) area
     second-hopeless none = inr (inl (record {
       coded = refl;
       block = 1;
@@ -143,9 +149,19 @@ module _ {a b : List ℕ} (rows : Pair rowBits a b) (area : List ℕ) (u : ℕ) 
           let y = told 3 refl (rows .second-long) hw (drop 248 s) (bits-drop 248 s (bits-information frame)) (second-long frame (fits .long)) near-second in
           sym (take-append-drop 248 s) ∙ ap₂ _++_ x y
 
-      pub coded-settled : (m : ℕ) (part : List ℕ) (right : Bool) → m ≡ differ v a + differ w b → 58 ≤ length area
-          → Delivered (take 248 v ++ take 248 w) (take 58 area) right part → Answered 1 (a ++ b) u area (settledAs right m u) (part ++ drop 58 area)
-      coded-settled m part true em room (l, bytes, sent) =
+      -- what it tells, for the bits that are sent
+      telling : (m : ℕ) → m ≡ differ v a + differ w b → (sent : List ℕ) → sent ≡ v ++ w
+          → acceptedBurst m u (places v a) (places w b)
+          ≡ acceptedBurst (differ sent (a ++ b)) u (places (blockAt rowBits 0 sent) (blockAt rowBits 0 (a ++ b)))
+          (places (blockAt rowBits 1 sent) (blockAt rowBits 1 (a ++ b)))
+      telling m em sent made =
+          let lv = hv .codeword .long in
+          rw (made, first-block v w lv, second-block v w lv (hw .codeword .long), first-is, second-is, em, differ-append v a w b (lv ∙ sym (rows .first-long)))
+
+      pub coded-settled : (m : ℕ) (first second part : List ℕ) (right : Bool) → m ≡ differ v a + differ w b → first ≡ listed (places v a)
+          → second ≡ listed (places w b) → 58 ≤ length area → Delivered (take 248 v ++ take 248 w) (take 58 area) right part
+          → Answered 1 (a ++ b) u area (settledAs right m u first second) (part ++ drop 58 area)
+      coded-settled m first second part true em ef es room (l, bytes, sent) =
           let made = rebuilt part sent in
           let lv = hv .codeword .long in
           inl (record {
@@ -156,10 +172,10 @@ module _ {a b : List ℕ} (rows : Pair rowBits a b) (area : List ℕ) (u : ℕ) 
               near = each-block (λ block. differ (blockAt rowBits block (codedA 1 part)) (blockAt rowBits block (a ++ b)) ≤ 16)
                   (rw (made, first-block v w lv, first-is) (hv .near)) (rw (made, second-block v w lv (hw .codeword .long), second-is) (hw .near));
             };
-            tells = ap (λ (n : ℕ). accepted n u) (em ∙ sym (ap (λ (x : List ℕ). differ x (a ++ b)) made ∙ differ-append v a w b (lv ∙ sym (rows .first-long))));
+            tells = rw (ef, es) (telling m em (codedA 1 part) made);
             left = refl;
           })
-      coded-settled m part false em room (same, none) =
+      coded-settled m first second part false em ef es room (same, none) =
           inr (inr (record {
             each = λ _. each-block (λ block. Mendable code3 block (a ++ b)) first-mendable (w, rw second-is hw);
             none = λ frame fits. none frame (fits .long ∙ sym (length-take-le 58 area room)) (carries frame fits);

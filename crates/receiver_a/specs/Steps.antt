@@ -11,8 +11,9 @@ use Rattle.bits.specs.Bytes.{Bytes}
 use Rattle.payload_a.specs.Segments.{rowBits}
 use Rattle.payload_a.specs.CodedA.{information}
 use Rattle.answers.specs.declared.Refusal.the-variants.{WrongCheck}
-use Rattle.answers.specs.declared.ReceivedA.{ReceivedA}
-use Rattle.answers.specs.declared.ReceivedA.the-variants.{Accepted, Refused}
+use Rattle.answers.specs.Answers.{noBurst}
+use Rattle.answers.specs.declared.ReceivedA.the-variants.{Accepted}
+use Rattle.answers.specs.declared.ReceivedBurst.{ReceivedBurst}
 
 -- two words of n bits
 pub record Pair (n : ℕ) (first second : List ℕ) : Type 0 where
@@ -35,5 +36,6 @@ Delivered bits area true area' = (length area' ≡ length area) × Bytes area' �
 Delivered bits area false area' = (area' ≡ area) × ((frame : List ℕ) → length frame ≡ length area → information frame ≡ bits → ⊥)
 
 -- the answer for a frame that was delivered, or not
-abbrev pub settledAs : Bool → ℕ → ℕ → ReceivedA
-settledAs right mended differing = cond right (Accepted mended differing) (Refused WrongCheck)
+abbrev pub settledAs : Bool → ℕ → ℕ → List ℕ → List ℕ → ReceivedBurst
+settledAs right mended differing first second =
+    cond right (record { answer = Accepted mended differing; first = first; second = second }) (noBurst WrongCheck)

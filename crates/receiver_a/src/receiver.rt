@@ -16,7 +16,9 @@ ghost use Rattle.receiver_a.specs.Steps.{Pair, Rows, flatOf, Delivered, 
 use crate::phases;
 use crate::rows;
 use answers::Decoded;
+use answers::PLACES;
 use answers::ReceivedA;
+use answers::ReceivedBurst;
 use answers::Refusal;
 use payload::scrambler;
 use payload_a::ELEMENTS;
@@ -52,27 +54,37 @@ fn deliver(bits: &mut [u8], area: &mut [u8]) -> bool
 }
 
 // The answer for a frame that was delivered, or not.
-fn settled(right: bool, mended: usize, differing: usize) -> ReceivedA
-    ensures { λ r. ⌜ r ≡ settledAs right mended differing ⌝ }
+fn settled(
+    right: bool,
+    mended: usize,
+    differing: usize,
+    first: [u16; PLACES],
+    second: [u16; PLACES],
+) -> ReceivedBurst
+    ensures { λ r. ⌜ r ≡ settledAs right mended differing first second ⌝ }
 {
-    if right {
-        ReceivedA::Accepted {
-            mended,
-            protected: differing,
-        }
-    } else {
-        ReceivedA::Refused(Refusal::WrongCheck)
+    if !right {
+        return answers::no_burst(Refusal::WrongCheck);
+    }
+    let answer = ReceivedA::Accepted {
+        mended,
+        protected: differing,
+    };
+    ReceivedBurst {
+        answer,
+        first,
+        second,
     }
 }
 
 // An uncoded frame.
-fn uncoded(rows: [[u8; BLOCK]; 2], differing: usize, area: &mut [u8]) -> ReceivedA
+fn uncoded(rows: [[u8; BLOCK]; 2], differing: usize, area: &mut [u8]) -> ReceivedBurst
     requires { ⌜ Rows rows × (94 ≤ length (now area)) ⌝ }
     ensures { λ r. ⌜ Answered 0 (flatOf rows) differing (now (area .entry)) r (now (area .exit)) ⌝ }
 {
     let mut bits = segments::flat(rows);
     let right = deliver(&mut bits, &mut area[0..94]);
-    settled(right, 0, differing)
+    settled(right, 0, differing, [0; PLACES], [0; PLACES])
 }
 
 // The information of two codewords, 248 bits of each.
@@ -94,25 +106,31 @@ fn row() -> [u8; BLOCK]
 }
 
 // A coded frame: each row is mended.
-fn coded(rows: [[u8; BLOCK]; 2], differing: usize, area: &mut [u8]) -> ReceivedA
+fn coded(rows: [[u8; BLOCK]; 2], differing: usize, area: &mut [u8]) -> ReceivedBurst
     requires { ⌜ Rows rows × (58 ≤ length (now area)) ⌝ }
     ensures { λ r. ⌜ Answered 1 (flatOf rows) differing (now (area .entry)) r (now (area .exit)) ⌝ }
 {
     let mut first = row();
-    let Decoded::Accepted(in_first) = decoder::decode(3, &rows[0], &mut first) else {
-        return ReceivedA::Refused(Refusal::Uncorrectable(0));
+    let of_first = decoder::decode(3, &rows[0], &mut first);
+    let answer = of_first.answer;
+    let Decoded::Accepted(in_first) = answer else {
+        return answers::no_burst(Refusal::Uncorrectable(0));
     };
     let mut second = row();
-    let Decoded::Accepted(in_second) = decoder::decode(3, &rows[1], &mut second) else {
-        return ReceivedA::Refused(Refusal::Uncorrectable(1));
+    let of_second = decoder::decode(3, &rows[1], &mut second);
+    let answer = of_second.answer;
+    let Decoded::Accepted(in_second) = answer else {
+        return answers::no_burst(Refusal::Uncorrectable(1));
     };
     let mut bits = information(&first, &second);
     let right = deliver(&mut bits, &mut area[0..58]);
-    settled(right, in_first + in_second, differing)
+    let at_first = of_first.places;
+    let at_second = of_second.places;
+    settled(right, in_first + in_second, differing, at_first, at_second)
 }
 
 // The answer for 784 bits in two rows, and so many protected bits that differ.
-fn answer(mode: u8, rows: [[u8; BLOCK]; 2], differing: usize, area: &mut [u8]) -> ReceivedA
+fn answer(mode: u8, rows: [[u8; BLOCK]; 2], differing: usize, area: &mut [u8]) -> ReceivedBurst
     requires { ⌜ (mode ≤ 1) × Rows rows × (bytesA mode ≤ length (now area)) ⌝ }
     ensures { λ r. ⌜ Answered mode (flatOf rows) differing (now (area .entry)) r (now (area .exit)) ⌝ }
 {
@@ -124,7 +142,7 @@ fn answer(mode: u8, rows: [[u8; BLOCK]; 2], differing: usize, area: &mut [u8]) -
 }
 
 // The answer for the bits of two OFDM symbols.
-fn read(mode: u8, first: &[u8], second: &[u8], area: &mut [u8]) -> ReceivedA
+fn read(mode: u8, first: &[u8], second: &[u8], area: &mut [u8]) -> ReceivedBurst
     requires { ⌜ (mode ≤ 1) × Pair symbolBits (now first) (now second) × (bytesA mode ≤ length (now area)) ⌝ }
     ensures { λ r. ⌜ Receives (passes tt) mode (now (first .entry) ++ now (second .entry)) (now (area .entry)) r (now (area .exit)) ⌝ }
 {
@@ -134,17 +152,17 @@ fn read(mode: u8, first: &[u8], second: &[u8], area: &mut [u8]) -> ReceivedA
 }
 
 // Checks 7 and 8, and then the answer: the phase of the first OFDM symbol's last point is carried on.
-pub(crate) fn receive(mode: u8, i: &[i16], q: &[i16], area: &mut [u8]) -> ReceivedA
+pub(crate) fn receive(mode: u8, i: &[i16], q: &[i16], area: &mut [u8]) -> ReceivedBurst
     requires { ⌜ (mode ≤ 1) × (elementsA ≤ length (now i)) × (elementsA ≤ length (now q)) × (bytesA mode ≤ length (now area)) ⌝ }
     ensures { λ r. ⌜ Receives (pointsChecked (now (i .entry)) (now (q .entry))) mode (dibits (received 2 (now (i .entry)) (now (q .entry)))) (now (area .entry)) r (now (area .exit)) ⌝ }
 {
     let occupied = grid::first_occupied(i, q, ELEMENTS);
     if occupied < ELEMENTS {
-        return ReceivedA::Refused(Refusal::Occupied(occupied));
+        return answers::no_burst(Refusal::Occupied(occupied));
     }
     let first = phases::read_bits(&i[0..SUB_CARRIERS], &q[0..SUB_CARRIERS], 0);
     if first.stray < POINTS {
-        return ReceivedA::Refused(Refusal::StrayPoint(grid::index(first.stray as u16)));
+        return answers::no_burst(Refusal::StrayPoint(grid::index(first.stray as u16)));
     }
     let second = phases::read_bits(
         &i[SUB_CARRIERS..ELEMENTS],
@@ -152,7 +170,7 @@ pub(crate) fn receive(mode: u8, i: &[i16], q: &[i16], area: &mut [u8]) -> Receiv
         first.last,
     );
     if second.stray < POINTS {
-        return ReceivedA::Refused(Refusal::StrayPoint(grid::index((POINTS + second.stray) as u16)));
+        return answers::no_burst(Refusal::StrayPoint(grid::index((POINTS + second.stray) as u16)));
     }
     read(mode, &first.bits, &second.bits, area)
 }

@@ -7,9 +7,7 @@ use Prim.Native.Nat.{ℕ, _*_, _≤_}
 use native.Mathlib.Omega.{arith}
 use lib.ListN.{length, take, drop}
 use lib.Seq.{take-append-le}
-use Rattle.answers.specs.declared.Decoded.{Decoded}
-use Rattle.answers.specs.declared.Decoded.the-variants.{Accepted}
-use Rattle.answers.specs.declared.Told.{Told}
+use Rattle.answers.specs.declared.DecodedWord.{DecodedWord}
 use Rattle.bits.specs.Words.{Bits, differ}
 use Rattle.bits.proofs.Copies.{front-copied}
 use Rattle.bits.proofs.Digits.{bits-take}
@@ -34,9 +32,9 @@ taken-uncoded mode z block out after bits long room e =
     })
 
 -- a coded block is mended where it can be
-module _ (mode : ℕ) (h : mode ≤ 2) (n : mode ≢ 0) (block out : List ℕ) (answer : Decoded) (after : List ℕ) (kept : length after ≡ 508) where
-  informs : (m : ℕ) → Mended (codeB mode) block out (Accepted m) after → Informs mode block after m
-  informs m mended =
+module _ (mode : ℕ) (h : mode ≤ 2) (n : mode ≢ 0) (block out : List ℕ) (answer : DecodedWord) (after : List ℕ) (kept : length after ≡ 508) where
+  informs : (mended : Mended (codeB mode) block out answer after) → Informs mode block after (differ (mended .codeword) block)
+  informs mended =
       let c = coded mode h n in
       let k = 8 * blockBytes mode in
       let v = mended .codeword in
@@ -45,16 +43,16 @@ module _ (mode : ℕ) (h : mode ≤ 2) (n : mode ≢ 0) (block out : List ℕ) (
       let front : take k after ≡ take k v = ap (take k) (mended .left) ∙ take-append-le k v (drop (codeB mode .n) out) fits in
       let back : blockOf mode (take k after) ≡ v
       = ap (blockOf mode) front ∙ block-coded mode n (take k v) ∙ sym (rw (c .information) at (word .made)) in
-      let count : m ≡ differ v block = ap (λ (t : Told). t .mended) (mended .tells) in
       record {
         long = kept;
         bits = rw front (bits-take k v (word .bits));
         near = omega (arith, mended .within .near, c .mends);
-        counted = rw back count;
+        counted = rw back;
       }
 
-  pub mended-coded : Bits block → length block ≡ blockBits mode → length out ≡ 508 → Decoding mode block out answer after → Mends mode block after answer
+  pub mended-coded : Bits block → length block ≡ blockBits mode → length out ≡ 508 → Decoding mode block out answer after
+      → Mends mode block after (answer .answer)
   mended-coded bits long room =
       let c = coded mode h n in
       by-answer mode (c .code) block out answer after bits (long ∙ sym (c .whole)) (omega (arith, c .whole, block-bits-few mode))
-      (Mends mode block after) informs (λ r hopeless. record { coded = n; none = hopeless .none })
+      (Mends mode block after) informs (λ hopeless r. record { coded = n; none = hopeless .none })

@@ -18,7 +18,7 @@ fn mend(mode: u8, block: &[u8], out: &mut [u8]) -> Decoded
         bytes::copy(block, out);
         return Decoded::Accepted(0);
     }
-    decoder::decode(mode, block, out)
+    decoder::decode(mode, block, out).answer
 }
 
 // A block at its end: the bits mended, and the scrambler's register after; or no codeword is near enough.

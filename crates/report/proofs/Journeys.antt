@@ -13,7 +13,7 @@ use lib.ListN.{length, getD}
 use Rattle.answers.specs.Answers.{accepted, refused, ofWritten, ofReceivedA}
 use Rattle.answers.specs.declared.Told.{Told}
 use Rattle.answers.specs.declared.Written.{Written}
-use Rattle.answers.specs.declared.ReceivedA.{ReceivedA}
+use Rattle.answers.specs.declared.ReceivedBurst.{ReceivedBurst}
 use Rattle.bits.proofs.Octets.{bytes-from}
 use Rattle.symbols.proofs.Rooms.{room-enough}
 use Rattle.payload_a.specs.CodedA.{bytesA}
@@ -47,14 +47,14 @@ module _ (mode : ℕ) (frame : List ℕ) (is qs : List ℤ) (sent : Written) (is
 
   -- and where it does not, what comes back tells it
   pub trip-received : ((i : ℕ) → getD frame i 0 < 256) → ofWritten sent .number ≡ 0 → (area : List ℕ) → bytesA mode ≤ length area
-      → (answer : ReceivedA) (after : List ℕ) → ReceivingA mode is' qs' area answer after → ofReceivedA answer ≡ tripOf mode (length frame)
+      → (answer : ReceivedBurst) (after : List ℕ) → ReceivingA mode is' qs' area answer after → ofReceivedA (answer .answer) ≡ tripOf mode (length frame)
   trip-received bytes is-sent area roomy answer after receiving = by (ℕ-discrete (length frame) (bytesA mode))
     where
-      by : Dec (length frame ≡ bytesA mode) → ofReceivedA answer ≡ tripOf mode (length frame)
+      by : Dec (length frame ≡ bytesA mode) → ofReceivedA (answer .answer) ≡ tripOf mode (length frame)
       by (yes e) =
           let told : ofWritten sent ≡ accepted 0 0 = sent-told ∙ rw (eq-eqb (length frame) (bytesA mode) e) in
           rw (eq-eqb (length frame) (bytesA mode) e)
-          (ap ofReceivedA (round-trip mode frame is qs sent is' qs' sending told (bytes-from frame bytes) area roomy answer after receiving .0))
+          (ap (λ (r : ReceivedBurst). ofReceivedA (r .answer)) (round-trip mode frame is qs sent is' qs' sending told (bytes-from frame bytes) area roomy answer after receiving .0))
       by (no n) =
           let told : ofWritten sent ≡ refused 2 0 = sent-told ∙ rw (ne-eqb (length frame) (bytesA mode) n) in
           let z : _≡_ {A = ℕ} 2 0 = ap (λ (t : Told). t .number) (sym told) ∙ is-sent in

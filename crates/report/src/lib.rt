@@ -47,7 +47,9 @@ fn trip(mode: u8, frame: &[u8]) -> Told
         return sent;
     }
     let mut area = [0u8; 94];
-    answers::of_received_a(receiver_a::receive_a(mode, &i, &q, &mut area))
+    let received = receiver_a::receive_a(mode, &i, &q, &mut area);
+    let answer = received.answer;
+    answers::of_received_a(answer)
 }
 
 // What the bench program writes for a frame.

@@ -49,9 +49,15 @@ fn send(mode: u8, frame: &[u8], i: &mut [i16], q: &mut [i16]) -> bool {
 
 // The call of job 4, and its response.
 fn receive(mode: u8, i: &[i16], q: &[i16], area: &mut [u8]) -> bool {
-    let told = answers::of_received_a(receiver_a::receive_a(mode, i, q, area));
+    let received = receiver_a::receive_a(mode, i, q, area);
+    let answer = received.answer;
+    let told = answers::of_received_a(answer);
+    let first = received.first;
+    let second = received.second;
     output::write_answer(told)
         && output::write_count(told.mended)
         && output::write_count(told.protected)
+        && output::write_places(&first)
+        && output::write_places(&second)
         && output::write_list(area)
 }

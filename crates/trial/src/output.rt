@@ -1,13 +1,14 @@
-// Writing to standard output: how a response begins, a count, a list, the response to a send job. False says that it could not be written.
+// Writing to standard output: how a response begins, a count, places, a list, the response to a send job. False says that it could not be written.
 ghost use mathlib.Core.Path.{_≡_};
 ghost use mathlib.Core.List.{_∷_};
 ghost use Prim.Native.Nat.{_*_, _≤_};
 ghost use lib.ListN.{length};
 ghost use mir.Syntax.{w16};
 ghost use mir.Val.{ofZ};
-ghost use Rattle.trial.specs.Format.{littleEndian, levelBytes};
+ghost use Rattle.trial.specs.Format.{littleEndian, pairs, levelBytes};
 use crate::parts;
 use crate::parts::PART;
+use answers::PLACES;
 use answers::Told;
 use libc::STDOUT_FILENO;
 
@@ -21,6 +22,13 @@ pub(crate) fn write_answer(told: Told) -> bool {
 pub(crate) fn write_count(n: usize) -> bool {
     let mut bytes = [0u8; 8];
     put(n, &mut bytes);
+    io::write_all(STDOUT_FILENO, &bytes)
+}
+
+// The places that an answer lists, in two bytes each.
+pub(crate) fn write_places(places: &[u16; PLACES]) -> bool {
+    let mut bytes = [0u8; 2 * PLACES];
+    pack_places(places, &mut bytes);
     io::write_all(STDOUT_FILENO, &bytes)
 }
 
@@ -78,6 +86,19 @@ fn write_part(levels: &[i16], bytes: &mut [u8]) -> bool
     let end = levels.len() * 2;
     pack(levels, &mut bytes[0..end]);
     io::write_all(STDOUT_FILENO, &bytes[0..end])
+}
+
+// The bytes of places.
+fn pack_places(places: &[u16], bytes: &mut [u8])
+    requires { ⌜ length (now bytes) ≡ length (now places) * 2 ⌝ }
+    ensures { λ _. ⌜ now (bytes .exit) ≡ pairs (now (places .entry)) ⌝ }
+{
+    let mut i: usize = 0;
+    while i < places.len() {
+        let at = i * 2;
+        put(places[i] as usize, &mut bytes[at..at + 2]);
+        i += 1;
+    }
 }
 
 // The bytes of levels.

@@ -36,6 +36,12 @@ fn encode(code: u8, word: &[u8], out: &mut [u8]) -> bool {
 }
 
 fn decode(code: u8, word: &[u8], out: &mut [u8]) -> bool {
-    let told = answers::of_decoded(decoder::decode(code, word, out));
-    output::write_answer(told) && output::write_count(told.mended) && output::write_list(out)
+    let decoded = decoder::decode(code, word, out);
+    let answer = decoded.answer;
+    let told = answers::of_decoded(answer);
+    let places = decoded.places;
+    output::write_answer(told)
+        && output::write_count(told.mended)
+        && output::write_places(&places)
+        && output::write_list(out)
 }

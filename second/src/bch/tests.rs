@@ -2,6 +2,7 @@
 //! search of every word within t.
 
 use super::*;
+use crate::bits::differ;
 use crate::field;
 use crate::rng::Rng;
 use std::collections::HashMap;
@@ -135,6 +136,89 @@ fn up_to_t_flips_come_back_and_more_never_give_the_old_word() {
     }
 }
 
+/// The first list of a decoded word, once all that request 10 says of the lists is seen to hold.
+fn places_of(number: u8, word: &[u8]) -> Option<[u16; 16]> {
+    let mut out = vec![7; word.len()];
+    let counts = decode(number, word, &mut out).ok()?;
+    let [list, other] = counts.places;
+    let (used, unused) = list.split_at(counts.mended as usize);
+    assert!(used.windows(2).all(|two| two[0] < two[1]), "{list:?}");
+    assert!(unused.iter().chain(&other).all(|&entry| entry == 0), "{list:?} {other:?}");
+    let places: Vec<usize> = used.iter().map(|&place| place as usize).collect();
+    assert_eq!(flipped(word, &places), out);
+    assert_eq!(code(number).unwrap().odd_syndromes(&out), [0; MOST]);
+    Some(list)
+}
+
+#[test]
+fn places_are_those_that_were_hit() {
+    let mut rng = Rng::new(5);
+    for (number, code) in all_codes() {
+        for count in 0..=code.t + 4 {
+            for _ in 0..40 {
+                let mut places = rng.distinct(count, code.n);
+                places.sort();
+                let word = flipped(&code.encoded(&rng.bits(code.k)), &places);
+                let list = places_of(number, &word);
+                assert!(count > code.t || list == Some(listed(&places)), "{places:?} {list:?}");
+            }
+        }
+    }
+}
+
+#[test]
+fn places_of_words_that_go_astray_lead_to_the_other_codeword() {
+    let mut rng = Rng::new(6);
+    let code = code(1).unwrap();
+    let astray = (0..500)
+        .filter(|_| {
+            let hits = rng.distinct(5, code.n);
+            places_of(1, &flipped(&code.encoded(&rng.bits(code.k)), &hits)).is_some()
+        })
+        .count();
+    assert!(astray > 5, "{astray}");
+}
+
+#[test]
+fn every_single_place_is_answered() {
+    let mut rng = Rng::new(7);
+    for (number, code) in all_codes() {
+        let sent = code.encoded(&rng.bits(code.k));
+        for place in 0..code.n {
+            assert_eq!(places_of(number, &flipped(&sent, &[place])), Some(listed(&[place])));
+        }
+    }
+}
+
+#[test]
+fn places_at_both_ends_of_a_word() {
+    let mut rng = Rng::new(8);
+    for (number, code) in all_codes() {
+        let (sent, last) = (code.encoded(&rng.bits(code.k)), code.n - 1);
+        // Of place 0 alone only the count tells.
+        let mut out = vec![7; code.n];
+        let alone = Counts { mended: 1, protected: 0, places: [[0; 16]; 2] };
+        assert_eq!(decode(number, &flipped(&sent, &[0]), &mut out), Ok(alone));
+        assert_eq!(decode(number, &sent, &mut out), Ok(Counts::default()));
+        for places in [vec![], vec![0], vec![last], vec![0, last], vec![0, 1], vec![last - 1, last]] {
+            assert_eq!(places_of(number, &flipped(&sent, &places)), Some(listed(&places)));
+        }
+    }
+}
+
+#[test]
+fn full_lists_of_code_3() {
+    let mut rng = Rng::new(9);
+    let code = code(3).unwrap();
+    let mut any = rng.distinct(16, code.n);
+    any.sort();
+    let sixteen = |place: fn(usize) -> usize| (0..16).map(place).collect::<Vec<usize>>();
+    for places in [any, sixteen(|hit| hit), sixteen(|hit| 376 + hit), sixteen(|hit| 26 * hit + 1)] {
+        let list = places_of(3, &flipped(&code.encoded(&rng.bits(code.k)), &places)).unwrap();
+        assert_eq!(list.map(usize::from).to_vec(), places);
+    }
+}
+
 #[test]
 fn code_3_refuses_17_and_18_flips() {
     let mut rng = Rng::new(2);
@@ -165,6 +249,14 @@ fn hits_in_dropped_places_are_refused() {
     }
 }
 
+/// Places in one of two lists and not in the other, rising.
+fn in_one_of(p: &[usize], q: &[usize]) -> Vec<usize> {
+    let mut places: Vec<usize> = p.iter().filter(|place| !q.contains(place)).copied().collect();
+    places.extend(q.iter().filter(|place| !p.contains(place)));
+    places.sort();
+    places
+}
+
 /// For code 1 every remainder that two or fewer flips leave: with it, whether any word at all lies within 4 of a given
 /// one can be seen by trying all of them. No field, no syndromes, no locator.
 #[test]
@@ -190,8 +282,8 @@ fn code_1_agrees_with_a_search_of_all_words_within_t() {
         };
         let rest = number_of(&poly::remainder(&word, &code.generator));
         let found = few.iter().find_map(|(part, places)| Some((places, few.get(&(part ^ rest))?)));
-        let searched = found.map(|(p, q)| flipped(&flipped(&word, p), q));
-        assert_eq!(code.mended(&word).map(|(answer, _)| answer), searched);
+        let searched = found.map(|(p, q)| (flipped(&flipped(&word, p), q), in_one_of(p, q)));
+        assert_eq!(code.mended(&word), searched);
         *if searched.is_some() { &mut accepted } else { &mut refused } += 1;
     }
     assert!(accepted > 100 && refused > 150, "{accepted} {refused}");

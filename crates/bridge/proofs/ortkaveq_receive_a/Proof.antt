@@ -1,6 +1,6 @@
 -- `bridge::ortkaveq_receive_a` meets its contract: the payload's promise, told.
 -- Assumes nothing.
-use mathlib.Core.Path.{ap, _∙_}
+use mathlib.Core.Path.{refl, ap, _∙_}
 use native.Mathlib.Omega.{arith}
 use Rattle.bridge.specs.Calls.{answerAOf, ReceiveACall}
 use Rattle.bridge.proofs.Counts.{few-received-a}
@@ -10,19 +10,22 @@ use Rattle.bridge.proofs.ortkaveq_receive_a.Tie as tie
 
 answer-a-of-requires : tie.Need-answer-a-of-requires
 answer-a-of-requires c κs =
-    let s = c .before .before .before .before .before .before .args in
-    let call = c .before .before .before .receive-a in
+    let s = c .before .before .before .before .before .before .before .before .args in
+    let call = c .before .before .before .before .before .receive-a in
     let few = few-received-a (s .area .now) (call .result) (call .last .1 .1 .1 .0) (s .mode) (s .i .now) (s .q .now) (call .ensures) in
     rw (c .of-received-a .ensures) (omega (arith, few .mended), omega (arith, few .protected))
 
 returns : tie.Need-returns
 returns c =
-    let s = c .before .before .before .before .before .before .before .args in
-    let call = c .before .before .before .before .receive-a in
-    let made : ReceiveACall (s .mode) (s .i .now) (s .q .now) (s .area .now) (c .answer-a-of .result) (call .last .1 .1 .1 .0) = record {
+    let s = c .before .before .before .before .before .before .before .before .before .args in
+    let call = c .before .before .before .before .before .before .receive-a in
+    let made : ReceiveACall (s .mode) (s .i .now) (s .q .now) (s .area .now) (c .answer-a-of .result) (call .last .1 .1 .1 .0)
+    (call .result .first) (call .result .second) = record {
       answer = call .result;
       promise = call .ensures;
       told = c .answer-a-of .ensures ∙ ap answerAOf (c .before .of-received-a .ensures);
+      first-list = refl;
+      second-list = refl;
     } in
     made
 

@@ -1,6 +1,9 @@
 -- `decoder::decode` meets its contract: the word is mended where the checks pass, and else nothing is done.
 -- Assumes nothing.
-use mathlib.Core.Path.{refl}
+use mathlib.Core.Path.{refl, ap, _∙_}
+use mathlib.Core.List.{[]}
+use Rattle.answers.specs.Answers.{listed, ofWord}
+use Rattle.answers.specs.declared.Told.{Told}
 use Rattle.answers.proofs.Telling.{because-is}
 use borrow.Author.Needs.{needs}
 use Rattle.decoder.proofs.decode.Statement.{statement}
@@ -13,8 +16,9 @@ answer-requires c κs =
 
 returns : tie.Need-returns
 returns c =
-    let failed = rw (c .before .verdict .given .1) at (c .before .before .before .judged .ensures) in
-    rw failed (because-is (c .before .verdict .given .0 .0), refl)
+    let told = c .before .before in
+    let failed = rw (told .verdict .given .1) at (told .before .before .judged .ensures) in
+    rw failed (ap ofWord (c .no-word .ensures) ∙ ap (λ (t : Told). record { told = t; places = listed [] }) (because-is (told .verdict .given .0 .0)), refl)
 
 returns-2 : tie.Need-returns-2
 returns-2 c =
@@ -28,6 +32,7 @@ decode-spec =
     (tie.spec
     (λ c κs. search needs)
     (λ c. search needs)
+    (λ c κs. search needs)
     (λ c. search needs)
     answer-requires
     (λ c. search needs)

@@ -1,17 +1,16 @@
 -- `receiver_a::receive_a` meets its contract: checks 1 and 3 in document 01's order, before those of the points.
 -- Assumes nothing.
-use mathlib.Core.Path.{_≡_, refl, sym, _∙_}
+use mathlib.Core.Path.{_≡_, refl, sym, ap, _∙_}
 use mathlib.Core.Bool.{true}
 use mathlib.Core.List.{List}
 use Prim.Native.Nat.{ℕ}
 use borrow.Author.Tests.{not-true, not-false}
 use Rattle.points.specs.Dqpsk.{dibits}
+use Rattle.answers.specs.Answers.{ofBurst}
 use Rattle.answers.specs.Checks.{Checked}
 use Rattle.symbols.specs.Grids.{received, room}
 use Rattle.payload_a.specs.PromiseA.{Receives}
-use Rattle.answers.specs.declared.Refusal.the-variants.{Unknown, NoRoom}
-use Rattle.answers.specs.declared.ReceivedA.{ReceivedA}
-use Rattle.answers.specs.declared.ReceivedA.the-variants.{Refused}
+use Rattle.answers.specs.declared.ReceivedBurst.{ReceivedBurst}
 use Rattle.payload_a.proofs.VerdictsA.{no-mode, no-points, no-area, receivable}
 use Rattle.symbols.proofs.Rooms.{room-both}
 use borrow.Author.Needs.{needs}
@@ -19,7 +18,7 @@ use Rattle.receiver_a.proofs.receive_a.Statement.{statement}
 use Rattle.receiver_a.proofs.receive_a.Tie as tie
 
 -- what is promised of an answer and an area, for what the checks say
-abbrev Promised : tie.Start → ReceivedA → List ℕ → Checked Unit → Type 0
+abbrev Promised : tie.Start → ReceivedBurst → List ℕ → Checked Unit → Type 0
 Promised s answer area k = Receives k (s .args .mode) (dibits (received 2 (s .args .i .now) (s .args .q .now))) (s .args .area .now) answer area
 
 -- where the room for the points is tested, and where there is enough
@@ -31,22 +30,26 @@ points c = sym (not-false (c .before .room .result) (c .if2 .left)) ∙ c .befor
 
 returns : tie.Need-returns
 returns c =
-    let a = c .before .before .args in
-    no-mode (Promised (c .before .before) (Refused Unknown) (a .area .now)) (a .mode) (a .i .now) (a .q .now) (a .area .now) (c .if1 .taken) (refl, refl)
+    let s = c .before .before .before in
+    let a = s .args in
+    no-mode (Promised s (c .no-burst .result) (a .area .now)) (a .mode) (a .i .now) (a .q .now) (a .area .now) (c .before .if1 .taken)
+    (ap ofBurst (c .no-burst .ensures), refl)
 
 returns-2 : tie.Need-returns-2
 returns-2 c =
-    let r = c .before in
+    let r = c .before .before in
     let a = begin r .args in
-    no-points (Promised (begin r) (Refused NoRoom) (a .area .now)) (a .mode) (a .i .now) (a .q .now) (a .area .now)
-    (r .before .if1 .left) (sym (not-true (r .room .result) (c .if2 .taken)) ∙ r .room .ensures) (refl, refl)
+    no-points (Promised (begin r) (c .no-burst2 .result) (a .area .now)) (a .mode) (a .i .now) (a .q .now) (a .area .now)
+    (r .before .if1 .left) (sym (not-true (r .room .result) (c .before .if2 .taken)) ∙ r .room .ensures)
+    (ap ofBurst (c .no-burst2 .ensures), refl)
 
 returns-3 : tie.Need-returns-3
 returns-3 c =
-    let two = c .before .before in
+    let two = c .before .before .before in
     let a = begin (two .before) .args in
-    no-area (Promised (begin (two .before)) (Refused NoRoom) (a .area .now)) (a .mode) (a .i .now) (a .q .now) (a .area .now)
-    (two .before .before .if1 .left) (points two) (rw (c .before .bytes-a .ensures) at (c .if3 .taken)) (refl, refl)
+    no-area (Promised (begin (two .before)) (c .no-burst3 .result) (a .area .now)) (a .mode) (a .i .now) (a .q .now) (a .area .now)
+    (two .before .before .if1 .left) (points two) (rw (c .before .before .bytes-a .ensures) at (c .before .if3 .taken))
+    (ap ofBurst (c .no-burst3 .ensures), refl)
 
 receive-requires : tie.Need-receive-requires
 receive-requires c κs =
@@ -68,9 +71,12 @@ pub receive-a-spec : {M : Type 1} → statement M
 receive-a-spec =
     tie.close
     (tie.spec
+    (λ c κs. search needs)
     returns
     (λ c κs. search needs)
+    (λ c κs. search needs)
     returns-2
+    (λ c κs. search needs)
     (λ c κs. search needs)
     returns-3
     receive-requires

@@ -17,12 +17,13 @@ use Rattle.decoder.proofs.mending.answer.Tie as tie
 
 returns : tie.Need-returns
 returns c =
-    let start = c .before .before .before .before .before .before .before .before .before in
-    let test = c .before .before .before .before in
+    let start = c .before .before .before .before .before .before .before .before .before .before in
+    let test = c .before .before .before .before .before in
     let left = test .before .before .leftover in
     let zero = sym (left .ensures) ∙ eqb-true (contents (left .result)) 0 (sym (test .before .is-zero .ensures) ∙ test .if1 .taken) in
-    inl (clean (codeword-of-zero (start .pre .sound) (start .args .bits .now) (start .pre .bits) (start .pre .long) zero)
-    (c .before .before .copy .ensures .1 ∙ copied (start .args .bits .now) (start .args .out .now) (start .args .c .n) (start .pre .long)))
+    rw (c .unchanged .ensures)
+    (inl (clean (codeword-of-zero (start .pre .sound) (start .args .bits .now) (start .pre .bits) (start .pre .long) zero)
+    (c .before .before .before .copy .ensures .1 ∙ copied (start .args .bits .now) (start .args .out .now) (start .args .c .n) (start .pre .long))))
 
 mend-requires : tie.Need-mend-requires
 mend-requires c κs =
@@ -41,6 +42,7 @@ pub answer-spec : {M : Type 1} → statement M
 answer-spec =
     tie.close
     (tie.spec
+    (λ c κs. search needs)
     (λ c κs. search needs)
     (λ c κs. search needs)
     (λ c κs. search needs)

@@ -1,9 +1,11 @@
 -- `decoder::mending::mend` meets its contract: the first try gives the answer or writes nothing, and the second gives it for every word.
 -- Assumes nothing.
-use mathlib.Core.Path.{ap}
+use mathlib.Core.Path.{ap, subst}
 use mathlib.Core.Logic.{inl}
 use native.Mathlib.Omega.{arith}
 use lib.ListN.{length}
+use Rattle.bch.specs.Held.{codeOf}
+use Rattle.decoder.specs.Candidates.{SingleBy}
 use borrow.Author.Needs.{needs}
 use Rattle.decoder.proofs.mending.mend.Statement.{statement}
 use Rattle.decoder.proofs.mending.mend.Tie as tie
@@ -13,7 +15,7 @@ several-requires c κs =
     let q = c .before .before .before .before .before .before .before .before .before .before .before in
     let tables = q .before .before .before .before .before .before .before .before .before .before in
     let s = tables .before .before .before .before .before in
-    let kept = rw (c .before .before .before .before .before .enum-told .given .1) at (q .single .ensures .0) in (
+    let kept = rw (c .before .before .before .before .before .enum-told2 .given .1) at (q .single .ensures .0) in (
       (
         record { sound = s .pre .0 .sound; bits = s .pre .0 .bits; long = s .pre .0 .long; room = omega (arith, s .pre .0 .room, ap length kept) },
         q .single .ensures .1,
@@ -25,12 +27,16 @@ several-requires c κs =
     )
 
 returns : tie.Need-returns
-returns c = inl (rw (c .before .first .given .1) at (c .before .before .before .before .before .before .before .single .ensures .0))
+returns c =
+    let q = c .before .before .before .before .before .before in
+    let s = q .before .before .before .before .before .before .before .before .before .before .before .before .before .before .before in
+    inl (subst (λ d. SingleBy (codeOf (s .args .c)) (s .args .bits .now) (s .args .out .now) (q .single .result) d (q .single .last .1 .1 .1 .1 .1 .1 .0))
+    (c .enum-told .given .1) (q .single .ensures .0))
 
 returns-2 : tie.Need-returns-2
 returns-2 c =
     let told = c .before .before .before .before .before .before .before .before .before .before in
-    let kept = rw (told .enum-told .given .1) at (told .before .before .before .before .before .before .single .ensures .0) in
+    let kept = rw (told .enum-told2 .given .1) at (told .before .before .before .before .before .before .single .ensures .0) in
     rw kept at (c .before .before .before .before .several .ensures)
 
 pub mend-spec : {M : Type 1} → statement M

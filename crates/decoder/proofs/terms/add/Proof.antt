@@ -8,14 +8,14 @@ use native.Mathlib.Omega.{arith}
 use lib.Dec.{lit<}
 use lib.ListN.{length}
 use Rattle.field.specs.Field.{power}
-use Rattle.decoder.proofs.Summands.{Begun, begun-none, begun-more, begun-all, entry-here, entry-on, power-on-mod}
+use Rattle.decoder.proofs.Summands.{Begun, powersBy, begun-none, begun-more, begun-added, entry-here, entry-on, power-on-mod}
 use borrow.Author.Needs.{needs}
 use Rattle.decoder.proofs.terms.add.Statement.{statement}
 use Rattle.decoder.proofs.terms.add.Tie as tie
 
 abbrev Inv-loop : tie.InvT-loop
 Inv-loop powers e d sums₀ two three four at₀ i₀ sums at i =
-    (i ≤ length sums₀) × (at < 511) × (power at ≡ power (e + d * i)) × Begun e d sums₀ sums i
+    (i ≤ length sums₀) × (at < 511) × (power at ≡ power (e + d * i)) × Begun (powersBy e d) sums₀ sums i
 
 abbrev μ-loop : tie.MeasureT-loop
 μ-loop powers e d sums₀ two three four at₀ i₀ sums at i = length sums₀ - i
@@ -23,7 +23,7 @@ abbrev μ-loop : tie.MeasureT-loop
 abbrev Inv-loop2 : tie.InvT-loop2
 Inv-loop2 powers e d sums₀ two three four at₀ i₀ sums at i =
     (i ≤ length sums₀) × (at < 511) × (length sums ≡ length sums₀) × (power at ≡ power (e + d * i))
-    × ((old : List ℕ) → Begun e d old sums₀ i₀ → Begun e d old sums i)
+    × ((old : List ℕ) → Begun (powersBy e d) old sums₀ i₀ → Begun (powersBy e d) old sums i)
 
 abbrev μ-loop2 : tie.MeasureT-loop2
 μ-loop2 powers e d sums₀ two three four at₀ i₀ sums at i = length sums₀ - i
@@ -31,7 +31,7 @@ abbrev μ-loop2 : tie.MeasureT-loop2
 loop-holds : tie.Need-loop-holds Inv-loop μ-loop Inv-loop2 μ-loop2
 loop-holds c =
     let args = c .before .args in
-    (omega arith, omega arith, ap power (omega arith), begun-none (args .e) (args .d) (args .sums .now))
+    (omega arith, omega arith, ap power (omega arith), begun-none (powersBy (args .e) (args .d)) (args .sums .now))
 
 loop-less : tie.Need-loop-less Inv-loop μ-loop Inv-loop2 μ-loop2
 loop-less c = omega arith
@@ -54,10 +54,11 @@ loop-again c =
     let one : d ≡ d * 1 % 511 = omega arith in
     let on = entry-on e d i at is table low in
     let old = start .args .sums .now in
-    let b1 = begun-more e d old (loop .inv .3) (omega arith) (first .add-at .ensures) (entry-here e d i at is table low) (i + 1) (omega arith) in
-    let b2 = begun-more e d old b1 (omega arith) (second .add-at2 .ensures) (on d 1 one) (i + 2) (omega arith) in
-    let b3 = begun-more e d old b2 (omega arith) (third .add-at3 .ensures) (on _ 2 refl) (i + 3) (omega arith) in
-    let b4 = begun-more e d old b3 (omega arith) (fourth .add-at4 .ensures) (on _ 3 refl) (i + 4) (omega arith) in
+    let t = powersBy e d in
+    let b1 = begun-more t old (loop .inv .3) (omega arith) (first .add-at .ensures) (entry-here e d i at is table low) (i + 1) (omega arith) in
+    let b2 = begun-more t old b1 (omega arith) (second .add-at2 .ensures) (on d 1 one) (i + 2) (omega arith) in
+    let b3 = begun-more t old b2 (omega arith) (third .add-at3 .ensures) (on _ 2 refl) (i + 3) (omega arith) in
+    let b4 = begun-more t old b3 (omega arith) (fourth .add-at4 .ensures) (on _ 3 refl) (i + 4) (omega arith) in
     (omega arith, rw (c .reduced .ensures) (mod-lt _ (lit< tt)), rw (c .reduced .ensures) (power-on-mod e d i at is _ 4 refl), b4)
 
 loop2-less : tie.Need-loop2-less Inv-loop μ-loop Inv-loop2 μ-loop2
@@ -80,13 +81,13 @@ loop2-again c =
       rw (c .reduced2 .ensures) (mod-lt _ (lit< tt)),
       omega arith,
       rw (c .reduced2 .ensures) (power-on-mod e d i at is d 1 one),
-      λ old b. begun-more e d old (loop .inv .4 old b) (omega (arith, b .long)) there here (i + 1) (omega arith),
+      λ old b. begun-more (powersBy e d) old (loop .inv .4 old b) (omega (arith, b .long)) there here (i + 1) (omega arith),
     )
 
 returns : tie.Need-returns Inv-loop μ-loop Inv-loop2 μ-loop2
 returns c =
     let start = c .before .before .before .before .before in
-    begun-all (start .args .e) (start .args .d) (start .args .sums .now) (c .before .loop2 .inv .4 _ (c .before .before .before .loop .inv .3)) (omega arith)
+    begun-added (start .args .e) (start .args .d) (c .before .loop2 .inv .4 _ (c .before .before .before .loop .inv .3)) (omega arith)
 
 pub add-spec : {M : Type 1} → statement M
 add-spec =

@@ -8,6 +8,7 @@ use lib.ListN.{getD}
 use lib.Seq.{length-take-le}
 use Rattle.answers.specs.declared.Decoded.{Decoded}
 use Rattle.answers.specs.declared.Decoded.the-variants.{Accepted}
+use Rattle.receiver_a.specs.Steps.{settledAs}
 use Rattle.receiver_a.proofs.Settling.{Mends, row-mended, both-long, both-bits, first-hopeless, second-hopeless, informing, coded-settled}
 use borrow.Author.Needs.{needs}
 use Rattle.receiver_a.proofs.receiver.coded.Statement.{statement}
@@ -17,13 +18,13 @@ use Rattle.receiver_a.proofs.receiver.coded.Tie as tie
 abbrev begin : tie.After-decode → tie.Start
 begin c = c .before .before .before .before .before .before
 
-abbrev one : tie.After-decode2 → tie.After-in-first
+abbrev one : tie.After-decode2 → tie.After-answer
 one c = c .before .before .before .before .before .before
 
-abbrev first : tie.After-in-first → tie.After-decode
+abbrev first : tie.After-answer → tie.After-decode
 first c = c .before .before .before
 
-abbrev second : tie.After-in-second → tie.After-decode2
+abbrev second : tie.After-answer2 → tie.After-decode2
 second c = c .before .before .before
 
 -- a row
@@ -31,40 +32,44 @@ abbrev row : tie.Start → ℕ → List ℕ
 row s i = getD (s .args .t1) i []
 
 -- what decode says of a row
-first-mended : (c : tie.After-decode) (told : Decoded) → c .decode .result ≡ told → Mends (row (begin c) 0) (c .decode .last .1 .1 .0) told
+first-mended : (c : tie.After-decode) (told : Decoded) → c .decode .result .answer ≡ told
+    → Mends (row (begin c) 0) (c .decode .last .1 .1 .0) (c .decode .result .places) told
 first-mended c told e =
     let s = begin c in
     let out = c .before .before .before .before .row in
-    subst (Mends (row s 0) (c .decode .last .1 .1 .0)) e
+    subst (Mends (row s 0) (c .decode .last .1 .1 .0) (c .decode .result .places)) e
     (row-mended (row s 0) (out .result) _ _ (s .pre .0 .first-bits) (s .pre .0 .first-long) (out .ensures) (c .decode .ensures))
 
-second-mended : (c : tie.After-decode2) (told : Decoded) → c .decode2 .result ≡ told
-    → Mends (row (begin (first (one c))) 1) (c .decode2 .last .1 .1 .0) told
+second-mended : (c : tie.After-decode2) (told : Decoded) → c .decode2 .result .answer ≡ told
+    → Mends (row (begin (first (one c))) 1) (c .decode2 .last .1 .1 .0) (c .decode2 .result .places) told
 second-mended c told e =
     let s = begin (first (one c)) in
     let out = c .before .before .before .before .row2 in
-    subst (Mends (row s 1) (c .decode2 .last .1 .1 .0)) e
+    subst (Mends (row s 1) (c .decode2 .last .1 .1 .0) (c .decode2 .result .places)) e
     (row-mended (row s 1) (out .result) _ _ (s .pre .0 .second-bits) (s .pre .0 .second-long) (out .ensures) (c .decode2 .ensures))
 
--- a codeword within 16 of it, and the count
-first-found : (c : tie.After-in-first) → Mends (row (begin (first c)) 0) (first c .decode .last .1 .1 .0) (Accepted (c .in-first .given .0 .0))
-first-found c = first-mended (first c) _ (c .in-first .given .1)
+-- a codeword within 16 of it, the count and the places
+first-found : (c : tie.After-answer)
+    → Mends (row (begin (first c)) 0) (first c .decode .last .1 .1 .0) (first c .decode .result .places) (Accepted (c .answer .given .0 .0))
+first-found c = first-mended (first c) _ (c .answer .given .1)
 
-second-found : (c : tie.After-in-second)
-    → Mends (row (begin (first (one (second c)))) 1) (second c .decode2 .last .1 .1 .0) (Accepted (c .in-second .given .0 .0))
-second-found c = second-mended (second c) _ (c .in-second .given .1)
+second-found : (c : tie.After-answer2)
+    → Mends (row (begin (first (one (second c)))) 1) (second c .decode2 .last .1 .1 .0) (second c .decode2 .result .places)
+    (Accepted (c .answer2 .given .0 .0))
+second-found c = second-mended (second c) _ (c .answer2 .given .1)
 
 returns : tie.Need-returns
 returns c =
-    let d = c .before .before .before in
+    let d = c .before .before .before .before in
     let s = begin d in
-    first-hopeless (s .pre .0) (s .args .area .now) (s .args .differing) (first-mended d _ (c .enum-told .given .1))
+    rw (c .no-burst .ensures) (first-hopeless (s .pre .0) (s .args .area .now) (s .args .differing) (first-mended d _ (c .before .enum-told .given .1)))
 
 returns-2 : tie.Need-returns-2
 returns-2 c =
-    let d = c .before .before .before in
+    let d = c .before .before .before .before in
     let s = begin (first (one d)) in
-    second-hopeless (s .pre .0) (s .args .area .now) (s .args .differing) (first-found (one d) .0) (second-mended d _ (c .enum-told2 .given .1))
+    rw (c .no-burst2 .ensures)
+    (second-hopeless (s .pre .0) (s .args .area .now) (s .args .differing) (first-found (one d) .0) (second-mended d _ (c .before .enum-told2 .given .1)))
 
 deliver-requires : tie.Need-deliver-requires
 deliver-requires c κs =
@@ -76,19 +81,24 @@ deliver-requires c κs =
 
 add-settled : tie.Need-add-settled
 add-settled c =
-    let two = c .before .before .before .before .before .before .before .before .before .before in
+    let two = c .before .before .before .before .before .before .before .before .before .before .before .before in
     omega (arith, first-found (one (second two)) .0 .near, first-found (one (second two)) .1, second-found two .0 .near, second-found two .1)
 
 returns-3 : tie.Need-returns-3
 returns-3 c =
-    let two = c .before .before .before .before .before .before .before .before .before .before .before in
-    let d = c .before .before .before .before .deliver in
+    let delivered = c .before .before .before .before .before .before in
+    let d = delivered .deliver in
+    let two = delivered .before .before .before .before .before .before .before in
     let v = first-found (one (second two)) in
     let w = second-found two in
     let s = begin (first (one (second two))) in
-    rw (c .settled .ensures) (coded-settled (s .pre .0) (s .args .area .now) (s .args .differing) (v .0) (w .0)
-    (one (second two) .in-first .given .0 .0 + two .in-second .given .0 .0) (d .last .1 .0) (d .result) (ap₂ _+_ (v .1) (w .1)) (s .pre .1)
-    (rw (c .before .before .before .before .before .before .before .information .ensures) at (d .ensures)))
+    let m = one (second two) .answer .given .0 .0 + two .answer2 .given .0 .0 in
+    let at-first = first (one (second two)) .decode .result .places in
+    let at-second = second two .decode2 .result .places in
+    let answered : c .settled .result ≡ settledAs (d .result) m (s .args .differing) at-first at-second = c .settled .ensures in
+    rw answered (coded-settled (s .pre .0) (s .args .area .now) (s .args .differing) (v .0) (w .0) m at-first at-second (d .last .1 .0) (d .result)
+    (ap₂ _+_ (v .1) (w .1)) (v .2) (w .2) (s .pre .1)
+    (rw (delivered .before .before .before .information .ensures) at (d .ensures)))
 
 pub coded-spec : {M : Type 1} → statement M
 coded-spec =
@@ -100,6 +110,7 @@ coded-spec =
     (λ c κs. search needs)
     (λ c. search needs)
     (λ c. search needs)
+    (λ c κs. search needs)
     returns
     (λ c κs. search needs)
     (λ c. search needs)
@@ -107,6 +118,7 @@ coded-spec =
     (λ c κs. search needs)
     (λ c. search needs)
     (λ c. search needs)
+    (λ c κs. search needs)
     returns-2
     (λ c. search needs)
     (λ c. search needs)

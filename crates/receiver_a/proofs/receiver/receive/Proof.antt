@@ -7,11 +7,9 @@ use native.Mathlib.Omega.{arith}
 use lib.IntN.{ℤ}
 use Rattle.points.specs.Dqpsk.{dibits, strayAt}
 use Rattle.symbols.specs.Grids.{received, indexOf, firstOccupied}
-use Rattle.answers.specs.Answers.{refused}
+use Rattle.answers.specs.Answers.{ofBurst, refusedBurst}
 use Rattle.answers.specs.Checks.{Checked}
-use Rattle.answers.specs.declared.Refusal.the-variants.{Occupied, StrayPoint}
-use Rattle.answers.specs.declared.ReceivedA.{ReceivedA}
-use Rattle.answers.specs.declared.ReceivedA.the-variants.{Refused}
+use Rattle.answers.specs.declared.ReceivedBurst.{ReceivedBurst}
 use Rattle.payload_a.specs.PromiseA.{Receives}
 use Rattle.payload_a.proofs.VerdictsA.{some-occupied, some-stray, legal}
 use Rattle.receiver_a.proofs.Bursts.{first-stray, second-stray, burst-read, burst-pair}
@@ -20,7 +18,7 @@ use Rattle.receiver_a.proofs.receiver.receive.Statement.{statement}
 use Rattle.receiver_a.proofs.receiver.receive.Tie as tie
 
 -- what is promised of an answer and an area, for what the checks say
-abbrev Promised : tie.Start → ReceivedA → List ℕ → Checked Unit → Type 0
+abbrev Promised : tie.Start → ReceivedBurst → List ℕ → Checked Unit → Type 0
 Promised s answer area k = Receives k (s .args .mode) (dibits (received 2 (s .args .i .now) (s .args .q .now))) (s .args .area .now) answer area
 
 -- where the second OFDM symbol is read, the first is before it
@@ -49,25 +47,28 @@ behind c = second-stray _ _ (one c .read-bits .ensures) (clean c) (c .read-bits2
 
 returns : tie.Need-returns
 returns c =
-    let s = c .before .before .before in
-    let k = c .before .first-occupied in
-    some-occupied (Promised s (Refused (Occupied (k .result))) (s .args .area .now)) (s .args .i .now) (s .args .q .now)
-    (rw (k .ensures) at (c .if1 .taken)) (ap (refused 7) (k .ensures), refl)
+    let s = c .before .before .before .before in
+    let k = c .before .before .first-occupied in
+    some-occupied (Promised s (c .no-burst .result) (s .args .area .now)) (s .args .i .now) (s .args .q .now)
+    (rw (k .ensures) at (c .before .if1 .taken)) (ap ofBurst (c .no-burst .ensures) ∙ ap (refusedBurst 7) (k .ensures), refl)
 
 returns-2 : tie.Need-returns-2
 returns-2 c =
-    let r = c .before .before in
-    let e = first-stray (is r) (qs r) (r .read-bits .ensures) (c .before .if2 .taken) in
-    some-stray (Promised (begin r) (Refused (StrayPoint (c .index .result))) (begin r .args .area .now)) (is r) (qs r)
+    let i = c .before in
+    let r = i .before .before in
+    let e = first-stray (is r) (qs r) (r .read-bits .ensures) (i .before .if2 .taken) in
+    some-stray (Promised (begin r) (c .no-burst2 .result) (begin r .args .area .now)) (is r) (qs r)
     (omega (arith, r .before .before .before .before .first-occupied .ensures, r .before .before .before .if1 .left))
-    (omega arith) (ap (refused 8) (c .index .ensures ∙ ap indexOf (sym e)), refl)
+    (omega arith) (ap ofBurst (c .no-burst2 .ensures) ∙ ap (refusedBurst 8) (i .index .ensures ∙ ap indexOf (sym e)), refl)
 
 returns-3 : tie.Need-returns-3
 returns-3 c =
-    let t = c .before .before in
+    let i = c .before in
+    let t = i .before .before in
     let r = one t in
-    some-stray (Promised (begin r) (Refused (StrayPoint (c .index2 .result))) (begin r .args .area .now)) (is r) (qs r)
-    (empty t) (omega (arith, behind t, c .before .if3 .taken)) (ap (refused 8) (c .index2 .ensures ∙ ap indexOf (sym (behind t))), refl)
+    some-stray (Promised (begin r) (c .no-burst3 .result) (begin r .args .area .now)) (is r) (qs r)
+    (empty t) (omega (arith, behind t, i .before .if3 .taken))
+    (ap ofBurst (c .no-burst3 .ensures) ∙ ap (refusedBurst 8) (i .index2 .ensures ∙ ap indexOf (sym (behind t))), refl)
 
 read-requires : tie.Need-read-requires
 read-requires c κs =
@@ -90,6 +91,7 @@ receive-spec =
     tie.close
     (tie.spec
     (λ c κs. search needs)
+    (λ c κs. search needs)
     returns
     (λ c. search needs)
     (λ c. search needs)
@@ -99,6 +101,7 @@ receive-spec =
     (λ c. search needs)
     (λ c κs. search needs)
     (λ c. search needs)
+    (λ c κs. search needs)
     (λ c κs. search needs)
     returns-2
     (λ c. search needs)
@@ -110,6 +113,7 @@ receive-spec =
     (λ c κs. search needs)
     (λ c. search needs)
     (λ c. search needs)
+    (λ c κs. search needs)
     (λ c κs. search needs)
     returns-3
     read-requires
