@@ -11,7 +11,7 @@
 #include <string.h>
 
 /* The most elements of a list of bytes, and of a list of levels; the most lists of a job, and of places; what these have in each byte before a call. */
-enum { MOST_BYTES = 67300, MOST_LEVELS = 65600, LISTS = 4, PLACES = 2, POISON = 0xA5 };
+enum { MOST_BYTES = 67300, MOST_LEVELS = 65600, LISTS = 4, PLACE_LISTS = 2, POISON = 0xA5 };
 
 /* Jobs 1 to 6: their lists, of bytes or levels, how many of them, the last ones, are lent, and how many counts and lists of places the response has. */
 static const struct { const char *lists; int lent, counts, places; } jobs[] = {
@@ -121,7 +121,7 @@ static void put_response(uint8_t job, struct told answer, const struct list *pla
 /* The rest of a request. */
 static void serve(uint8_t job)
 {
-    struct list l[LISTS], places[PLACES];
+    struct list l[LISTS], places[PLACE_LISTS];
     uint8_t mode;
     uint64_t size = 0;
     int count = 0;
@@ -130,7 +130,7 @@ static void serve(uint8_t job)
         get(&size, sizeof size);
     for (const char *kind = jobs[job].lists; *kind; kind++)
         l[count++] = get_list(*kind);
-    for (int n = 0; n < PLACES; n++)
+    for (int n = 0; n < PLACE_LISTS; n++)
         places[n] = make_places();
     struct told answer = call(job, mode, size, l, places);
     if (job == 5)
@@ -140,7 +140,7 @@ static void serve(uint8_t job)
     put_response(job, answer, places, l + count - jobs[job].lent);
     while (count > 0)
         free(l[--count].at);
-    for (int n = 0; n < PLACES; n++)
+    for (int n = 0; n < PLACE_LISTS; n++)
         free(places[n].at);
 }
 

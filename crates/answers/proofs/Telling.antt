@@ -101,10 +101,13 @@ decoded-same : (a b : Decoded) → ofDecoded a ≡ ofDecoded b → a ≡ b
 decoded-same a b e = sym (decoded-of a) ∙ ap decodedOf e ∙ decoded-of b
 
 -- and with it the places
+pub word-told : (a : DecodedWord) {t : ToldWord} → ofWord a ≡ t → ofDecoded (a .answer) ≡ t .told
+word-told a = ap (λ (t : ToldWord). t .told)
+
 pub word-same : (a b : DecodedWord) → ofWord a ≡ ofWord b → a ≡ b
 word-same a b e =
     ap₂ (λ (x : Decoded) (t : ToldWord). record { answer = x; places = t .places })
-    (decoded-same (a .answer) (b .answer) (ap (λ (t : ToldWord). t .told) e)) e
+    (decoded-same (a .answer) (b .answer) (word-told a e)) e
 
 receivedAOf : Told → ReceivedA
 receivedAOf t = cond (eqb (t .number) 0) (receivedA.Accepted (t .mended) (t .protected)) (receivedA.Refused (refusalOf t))
@@ -117,10 +120,13 @@ received-a-of (receivedA.Refused r) = rw (numbered r, refusal-of r)
 received-a-same : (a b : ReceivedA) → ofReceivedA a ≡ ofReceivedA b → a ≡ b
 received-a-same a b e = sym (received-a-of a) ∙ ap receivedAOf e ∙ received-a-of b
 
+pub burst-told : (a : ReceivedBurst) {t : ToldBurst} → ofBurst a ≡ t → ofReceivedA (a .answer) ≡ t .told
+burst-told a = ap (λ (t : ToldBurst). t .told)
+
 pub burst-same : (a b : ReceivedBurst) → ofBurst a ≡ ofBurst b → a ≡ b
 burst-same a b e =
     ap₂ (λ (x : ReceivedA) (t : ToldBurst). record { answer = x; first = t .first; second = t .second })
-    (received-a-same (a .answer) (b .answer) (ap (λ (t : ToldBurst). t .told) e)) e
+    (received-a-same (a .answer) (b .answer) (burst-told a e)) e
 
 receivedBOf : Told → ReceivedB
 receivedBOf t = cond (eqb (t .number) 0) (receivedB.Accepted (t .mended)) (receivedB.Refused (refusalOf t))

@@ -60,9 +60,13 @@ ofReceivedB (receivedB.Refused why) = because why
 
 -- ---- the places mended
 
--- places as an answer lists them, in 16 entries: 0 behind the last
+-- the entries of a list of places
+abbrev pub mostPlaces : ℕ
+mostPlaces = 16
+
+-- places as an answer lists them: 0 behind the last
 abbrev pub listed : List ℕ → List ℕ
-listed places = places ++ replicate (16 - length places) 0
+listed places = places ++ replicate (mostPlaces - length places) 0
 
 -- what decode tells of a word: number, place and count, and the list of places
 pub record ToldWord : Type 0 where
@@ -95,12 +99,9 @@ acceptedBurst mended protected first second = record { told = accepted mended pr
 abbrev pub refusedBurst : ℕ → ℕ → ToldBurst
 refusedBurst number place = record { told = refused number place; first = listed []; second = listed [] }
 
--- the answers of a refusal, and the answer for a burst that is accepted
+-- the answers of a refusal
 abbrev pub noWord : Refusal → DecodedWord
 noWord why = record { answer = decoded.Refused why; places = listed [] }
 
 abbrev pub noBurst : Refusal → ReceivedBurst
 noBurst why = record { answer = receivedA.Refused why; first = listed []; second = listed [] }
-
-abbrev pub burstOf : ℕ → ℕ → List ℕ → List ℕ → ReceivedBurst
-burstOf mended protected first second = record { answer = receivedA.Accepted mended protected; first = listed first; second = listed second }

@@ -8,9 +8,9 @@ use native.Mathlib.Omega.{arith}
 use lib.ListN.{length, take, drop}
 use lib.Seq.{take-at}
 use Rattle.answers.specs.Checks.{passes}
-use Rattle.answers.specs.Answers.{accepted, refused, ofDecoded, ToldWord}
+use Rattle.answers.specs.Answers.{accepted, refused, ofDecoded}
 use Rattle.answers.specs.declared.Told.{Told}
-use Rattle.answers.proofs.Telling.{never-accepted}
+use Rattle.answers.proofs.Telling.{word-told, never-accepted}
 use Rattle.bch.proofs.Verdicts.{all-pass}
 use Rattle.bits.proofs.Digits.{none-bad}
 use Rattle.bch.proofs.Mendings.{only-codeword, encoding-codeword}
@@ -51,8 +51,8 @@ by-answer number {c} code word out answer after bits long room P found none deco
     of-hopeless p (Refused r) e = p r
 
     go : Decodes (passes c) word out answer after → P (answer .answer)
-    go (inl h) = of-mended (differ (h .codeword) word) (found h) (answer .answer) (ap (λ (t : ToldWord). t .told) (h .tells))
-    go (inr h) = of-hopeless (none h) (answer .answer) (ap (λ (t : ToldWord). t .told) (h .tells))
+    go (inl h) = of-mended (differ (h .codeword) word) (found h) (answer .answer) (word-told answer (h .tells))
+    go (inr h) = of-hopeless (none h) (answer .answer) (word-told answer (h .tells))
 
 -- ---- a codeword is what encode makes of its information
 

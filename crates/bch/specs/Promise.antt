@@ -1,4 +1,4 @@
--- What encode and decode promise: for every code number, word and lent list, the answer and what the list holds after. Of decode the answer has the places mended.
+-- What encode and decode promise: for every code number, word and lent list, the answer, of decode with the places mended, and what the list holds after.
 -- Demand 3 is `Mended` and `Hopeless`: a codeword is answered exactly when one lies within t.
 -- Assumes nothing.
 use mathlib.Core.Path.{_≡_}

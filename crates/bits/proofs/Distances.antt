@@ -22,10 +22,6 @@ pub differ-cons : (v w : ℕ) (vs ws : List ℕ) → differ (v ∷ vs) (w ∷ ws
 unfolding differ apart
 differ-cons v w vs ws = refl
 
-pub differ-one : (v w : ℕ) → differ (v ∷ []) (w ∷ []) ≡ apart v w
-unfolding differ apart
-differ-one v w = omega arith
-
 pub apart-same : (v w : ℕ) → v ≡ w → apart v w ≡ 0
 unfolding apart
 apart-same v w e = rw e (go (eqb w w) (eqb-refl w))

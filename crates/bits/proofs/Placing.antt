@@ -2,7 +2,7 @@
 -- Assumes nothing.
 use mathlib.Core.Path.{_≡_, refl, sym, ap, ap₂, _∙_}
 use mathlib.Core.Bool.{cond}
-use mathlib.Core.List.{List, [], _∷_, _++_, append-nil, append-assoc}
+use mathlib.Core.List.{List, [], _∷_, _++_, append-assoc}
 use mathlib.Core.Logic.{_≢_, by-cases}
 use Prim.Native.Nat.{ℕ, zero, suc, _+_, _-_, _≤_, _<_}
 use native.Mathlib.Decide.{decLt, ℕ-discrete}
@@ -14,23 +14,23 @@ use lib.Seq.{ext-getD}
 use Rattle.bits.specs.Words.{Bits, differ}
 use Rattle.bits.specs.Places.{placesFrom, places, flippedAt}
 use Rattle.bits.proofs.Digits.{bits-at}
-use Rattle.bits.proofs.Distances.{apart, apart-same, apart-other, differ-cons, differ-nil, differ-to-nil, differ-self}
+use Rattle.bits.proofs.Distances.{apart-same, apart-other, differ-cons, differ-nil, differ-to-nil, differ-self}
 
 -- ---- one place
 
 -- the index, where two elements differ
-pub mark : ℕ → ℕ → ℕ → List ℕ
+mark : ℕ → ℕ → ℕ → List ℕ
 mark i v w = cond (eqb v w) [] (i ∷ [])
 
-pub mark-same : (i v w : ℕ) → v ≡ w → mark i v w ≡ []
+mark-same : (i v w : ℕ) → v ≡ w → mark i v w ≡ []
 unfolding mark
 mark-same i v w e = rw (eq-eqb v w e)
 
-pub mark-other : (i v w : ℕ) → v ≢ w → mark i v w ≡ i ∷ []
+mark-other : (i v w : ℕ) → v ≢ w → mark i v w ≡ i ∷ []
 unfolding mark
 mark-other i v w n = rw (ne-eqb v w n)
 
-pub places-cons : (i v w : ℕ) (vs ws : List ℕ) → placesFrom i (v ∷ vs) (w ∷ ws) ≡ mark i v w ++ placesFrom (suc i) vs ws
+places-cons : (i v w : ℕ) (vs ws : List ℕ) → placesFrom i (v ∷ vs) (w ∷ ws) ≡ mark i v w ++ placesFrom (suc i) vs ws
 unfolding placesFrom mark
 places-cons i v w vs ws = refl
 
@@ -130,10 +130,6 @@ get-behind : (front : List ℕ) (x : ℕ) (l : List ℕ) → getD (front ++ (x �
 get-behind [] x l = refl
 get-behind (f ∷ front) x l = get-behind front x l
 
-pub one-more : (front : List ℕ) (x : ℕ) (l : List ℕ) → (front ++ (x ∷ [])) ++ l ≡ front ++ (x ∷ l)
-one-more [] x l = refl
-one-more (f ∷ front) x l = ap (λ (r : List ℕ). f ∷ r) (one-more front x l)
-
 flips-from : (front v w : List ℕ) → Bits v → Bits w → length v ≡ length w → flippedAt (placesFrom (length front) v w) (front ++ w) ≡ front ++ v
 unfolding placesFrom flippedAt
 flips-from front [] [] bv bw e = refl
@@ -152,7 +148,7 @@ flips-from front (v ∷ vs) (w ∷ ws) bv bw e =
         → flippedAt (placesFrom (suc (length front)) vs ws) (front ++ (x ∷ ws)) ≡ front ++ (x ∷ vs)
     on x h =
         let long : length (front ++ (x ∷ [])) ≡ suc (length front) = length-append front (x ∷ []) ∙ omega arith in
-        ap₂ (λ (n : ℕ) (l : List ℕ). flippedAt (placesFrom n vs ws) l) (sym long) (sym (one-more front x ws)) ∙ h ∙ one-more front x vs
+        ap₂ (λ (n : ℕ) (l : List ℕ). flippedAt (placesFrom n vs ws) l) (sym long) (sym (append-assoc front (x ∷ []) ws)) ∙ h ∙ append-assoc front (x ∷ []) vs
 
 pub flips : (v w : List ℕ) → Bits v → Bits w → length v ≡ length w → flippedAt (places v w) w ≡ v
 flips = flips-from []

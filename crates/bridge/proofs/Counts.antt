@@ -9,7 +9,7 @@ use native.Mathlib.Decide.{decLt}
 use native.Mathlib.Omega.{arith}
 use lib.IntN.{ℤ}
 use lib.ListN.{length}
-use Rattle.answers.specs.Answers.{accepted, refused, ofWritten, ofDecoded, ofReceivedA, ofReceivedB, ToldWord, ofWord, ToldBurst, ofBurst}
+use Rattle.answers.specs.Answers.{accepted, refused, ofWritten, ofDecoded, ofReceivedA, ofReceivedB}
 use Rattle.answers.specs.Checks.{Checked, fails, passes}
 use Rattle.answers.specs.declared.Told.{Told}
 use Rattle.answers.specs.declared.Written.{Written}
@@ -17,7 +17,7 @@ use Rattle.answers.specs.declared.Written.the-variants.{Accepted, Refused}
 use Rattle.answers.specs.declared.DecodedWord.{DecodedWord}
 use Rattle.answers.specs.declared.ReceivedBurst.{ReceivedBurst}
 use Rattle.answers.specs.declared.ReceivedB.{ReceivedB}
-use Rattle.answers.proofs.Telling.{because-is}
+use Rattle.answers.proofs.Telling.{word-told, burst-told, because-is}
 use Rattle.bits.proofs.Distances.{differ-le}
 use Rattle.bch.specs.Codes.{Code}
 use Rattle.bch.specs.Promise.{Decodes, Decoding}
@@ -60,17 +60,13 @@ module _ (word out : List ℕ) (a : DecodedWord) (after : List ℕ) where
   abbrev FewIn : Checked Code → Type 0
   FewIn k = Decodes k word out a after → Few 511 0 (ofDecoded (a .answer))
 
-  -- without the places
-  of-word : {t : ToldWord} → ofWord a ≡ t → ofDecoded (a .answer) ≡ t .told
-  of-word = ap (λ (t : ToldWord). t .told)
-
   passed : (d : Code) → d .n ≤ 511 → length word ≡ d .n → FewIn (passes d)
   passed d l e (inl p) =
-      few-accepted (of-word (p .tells)) (differ-le (p .codeword) word 511 (omega (arith, p .within .codeword .long)) (omega arith)) (omega arith)
-  passed d l e (inr p) = few-refused (of-word (p .tells))
+      few-accepted (word-told a (p .tells)) (differ-le (p .codeword) word 511 (omega (arith, p .within .codeword .long)) (omega arith)) (omega arith)
+  passed d l e (inr p) = few-refused (word-told a (p .tells))
 
   pub few-decoded : (c : ℕ) → Decoding c word out a after → Few 511 0 (ofDecoded (a .answer))
-  few-decoded = by-check FewIn (λ d. d .n) word out (λ number place p. few-refused (of-word (p .0))) (λ d rooted. passed d (rooted .places))
+  few-decoded = by-check FewIn (λ d. d .n) word out (λ number place p. few-refused (word-told a (p .0))) (λ d rooted. passed d (rooted .places))
 
 -- ---- receiving Payload A
 
@@ -82,22 +78,20 @@ module _ (area : List ℕ) (answer : ReceivedBurst) (after : List ℕ) where
   abbrev FewA : Type 0
   FewA = Few 784 56 (ofReceivedA (answer .answer))
 
-  of-burst : {t : ToldBurst} → ofBurst answer ≡ t → ofReceivedA (answer .answer) ≡ t .told
-  of-burst = ap (λ (t : ToldBurst). t .told)
-
   few-of : (k : Checked Unit) (mode : ℕ) → mode ≤ 1 → (bits : List ℕ) → length bits ≡ 840 → Receives k mode bits area answer after → FewA
-  few-of (fails number place) mode known bits long p = few-refused (of-burst (p .0))
+  few-of (fails number place) mode known bits long p = few-refused (burst-told answer (p .0))
   few-of (passes _) mode known bits long (inl p) =
-      few-accepted (of-burst (p .tells))
+      few-accepted (burst-told answer (p .tells))
       (differ-le (codedA mode (p .frame)) (carried bits) 784 (omega (arith, length-codedA mode (p .frame) known (p .fits .long)))
       (omega (arith, length-carried bits long)))
       (differ-le fields (protected bits) 56 (omega (arith, length-fields)) (omega (arith, length-protected bits long)))
-  few-of (passes _) mode known bits long (inr (inl p)) = few-refused (of-burst (p .tells))
-  few-of (passes _) mode known bits long (inr (inr p)) = few-refused (of-burst (p .tells))
+  few-of (passes _) mode known bits long (inr (inl p)) = few-refused (burst-told answer (p .tells))
+  few-of (passes _) mode known bits long (inr (inr p)) = few-refused (burst-told answer (p .tells))
 
   by-mode : (mode : ℕ) (is qs : List ℤ) (bits : List ℕ) → length bits ≡ 840 → Dec (1 < mode)
       → Receives (receiveChecked mode is qs area) mode bits area answer after → FewA
-  by-mode mode is qs bits long (yes l) = no-mode (λ k. Receives k mode bits area answer after → FewA) mode is qs area l (λ p. few-refused (of-burst (p .0)))
+  by-mode mode is qs bits long (yes l) =
+      no-mode (λ k. Receives k mode bits area answer after → FewA) mode is qs area l (λ p. few-refused (burst-told answer (p .0)))
   by-mode mode is qs bits long (no l) = few-of (receiveChecked mode is qs area) mode (omega arith) bits long
 
   pub few-received-a : (mode : ℕ) (is qs : List ℤ) → ReceivingA mode is qs area answer after → FewA

@@ -41,7 +41,7 @@ pub extern "C" fn ortkaveq_encode(code: u8, word: &[u8], out: &mut [u8]) -> Answ
     answer_of(answers::of_written(encoder::encode(code, word, out)))
 }
 
-// Writes the n bits of the codeword that differs from the n bits of word in at most t places, if there is one, and the list of those places, all 0 in a refusal.
+// Writes the n bits of the codeword that differs from the n bits of word in at most t places, if there is one, and the list of those places; 0 in a refusal.
 #[no_mangle]
 pub extern "C" fn ortkaveq_decode(
     code: u8,
@@ -66,7 +66,7 @@ pub extern "C" fn ortkaveq_send_a(mode: u8, frame: &[u8], i: &mut [i16], q: &mut
     answer_of(answers::of_written(sender_a::send_a(mode, frame, i, q)))
 }
 
-// Receives a frame of Payload A from 512 elements of I and of Q: writes its bytes to the first of the area, and the lists of the places mended in each half, all
+// Receives a frame of Payload A from 512 elements of I and of Q: writes its bytes to the first of the area, and the lists of the places mended in each half;
 // 0 in a refusal.
 #[no_mangle]
 pub extern "C" fn ortkaveq_receive_a(

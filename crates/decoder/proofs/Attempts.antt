@@ -3,7 +3,7 @@
 use mathlib.Core.Path.{_≡_, sym, ap, ap₂, subst, _∙_}
 use mathlib.Core.Logic.{inl, inr}
 use mathlib.Core.List.{List, [], _∷_, _++_}
-use Prim.Native.Nat.{ℕ, zero, suc, _-_, _*_, _≤_, _<_}
+use Prim.Native.Nat.{ℕ, suc, _-_, _*_, _≤_, _<_}
 use native.Mathlib.Omega.{arith}
 use lib.ListN.{length, take, drop, getD, set, length-set}
 use Rattle.algebra.proofs.Berlekamp.{Found}
@@ -21,7 +21,6 @@ use Rattle.decoder.specs.declared.search.Flips.{Flips}
 use Rattle.answers.specs.Answers.{accepted, listed, ofWord, acceptedWord}
 use Rattle.answers.specs.Checks.{passes}
 use Rattle.bch.specs.Promise.{Decodes, Mended}
-use Rattle.answers.specs.declared.Decoded.{Decoded}
 use Rattle.answers.specs.declared.Decoded.the-variants.{Accepted}
 use Rattle.answers.specs.declared.DecodedWord.{DecodedWord}
 use Rattle.bch.specs.declared.code.Held.{Held}

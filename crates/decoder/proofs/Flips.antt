@@ -1,9 +1,9 @@
 -- The places picked one after the other: what `pick` and `flip` have done of the copy, and listed, up to some index.
 -- Assumes nothing.
 use mathlib.Core.Path.{_≡_, refl, sym, ap, _∙_}
-use mathlib.Core.Logic.{_≢_, by-cases}
+use mathlib.Core.Logic.{by-cases}
 use mathlib.Core.Bool.{cond}
-use mathlib.Core.List.{List, [], _∷_, _++_}
+use mathlib.Core.List.{List, [], _∷_, _++_, append-assoc}
 use Prim.Native.Nat.{ℕ, suc, _+_, _-_, _≤_, _<_}
 use native.Mathlib.Decide.{decLt, ℕ-discrete}
 use native.Mathlib.Omega.{arith}
@@ -16,7 +16,7 @@ use Rattle.bits.specs.Words.{Bits, differ}
 use Rattle.bits.specs.Places.{places}
 use Rattle.bits.proofs.Digits.{bits-at}
 use Rattle.bits.proofs.Distances.{differ-self, differ-le}
-use Rattle.bits.proofs.Placing.{as-many, places-self, places-set, set-behind, one-more}
+use Rattle.bits.proofs.Placing.{as-many, places-self, places-set, set-behind}
 use Rattle.field.proofs.Elements.{GF512, element-of, of-0, of-zero}
 use Rattle.field.proofs.Values.{series}
 use Rattle.decoder.specs.Locators.{valueAt, Turned}
@@ -26,12 +26,12 @@ use Rattle.decoder.proofs.Summands.{Valued}
 
 -- ---- a list of places, and one more
 
-pub listed-more : (ps : List ℕ) (i : ℕ) → length ps < 16 → set (listed ps) (length ps) i ≡ listed (ps ++ (i ∷ []))
+listed-more : (ps : List ℕ) (i : ℕ) → length ps < 16 → set (listed ps) (length ps) i ≡ listed (ps ++ (i ∷ []))
 listed-more ps i room =
     let m = 15 - length ps in
     let left : 16 - length ps ≡ suc m = omega arith in
     let then : m ≡ 16 - length (ps ++ (i ∷ [])) = omega (arith, length-append ps (i ∷ [])) in
-    ap (λ (n : ℕ). set (ps ++ replicate n 0) (length ps) i) left ∙ set-behind ps 0 i (replicate m 0) ∙ sym (one-more ps i (replicate m 0))
+    ap (λ (n : ℕ). set (ps ++ replicate n 0) (length ps) i) left ∙ set-behind ps 0 i (replicate m 0) ∙ sym (append-assoc ps (i ∷ []) (replicate m 0))
     ∙ ap (λ (n : ℕ). (ps ++ (i ∷ [])) ++ replicate n 0) then
 
 -- ---- eight sums

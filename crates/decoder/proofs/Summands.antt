@@ -125,8 +125,9 @@ nothing-at (suc n) (suc m) zero = refl
 nothing-at (suc n) (suc m) (suc i) = nothing-at n m i
 
 -- the first n of m sums changed, there are m still
-pub whole : (n m : ℕ) {zs : List ℕ} (ys : List ℕ) → zs ≡ replicate m 0 → n ≤ m → length ys ≡ length (take (n - 0) zs) → length (ys ++ postOf 0 (n - 0) zs) ≡ m
-whole n m {zs} ys z fit e =
+pub all-there : (n m : ℕ) {zs : List ℕ} (ys : List ℕ) → zs ≡ replicate m 0 → n ≤ m → length ys ≡ length (take (n - 0) zs)
+    → length (ys ++ postOf 0 (n - 0) zs) ≡ m
+all-there n m {zs} ys z fit e =
     let all : length zs ≡ m = ap length z ∙ length-replicate m 0 in
     let front : length (take (n - 0) zs) ≡ n - 0 = length-take-le (n - 0) zs (omega arith) in
     let rest : length (postOf 0 (n - 0) zs) ≡ length zs - (n - 0) = length-drop (n - 0) zs in

@@ -1,4 +1,4 @@
--- The remainder of a whole word, and what an attempt to mend it finds.
+-- The remainder of a whole word, and what is tried to mend it.
 -- The promise of decode rests on nothing here: it is what the private functions promise one another.
 -- Assumes nothing.
 use mathlib.Core.Path.{_≡_}

@@ -12,7 +12,7 @@ use Rattle.algebra.proofs.Berlekamp.{Found}
 use Rattle.field.specs.Tables.{logTable, powerTable}
 use Rattle.field.proofs.Elements.{GF512, element-of}
 use Rattle.field.proofs.Values.{a, series}
-use Rattle.answers.specs.Answers.{listed}
+use Rattle.answers.specs.Answers.{mostPlaces, listed}
 use Rattle.bits.specs.Words.{differ}
 use Rattle.bits.specs.Places.{places}
 use Rattle.decoder.specs.declared.locator.State.{State}
@@ -60,4 +60,4 @@ pub record Turned (locator : List ℕ) (len : ℕ) (word copy : List ℕ) (flips
   pub flipped : (i : ℕ) → i < length word → valueAt locator (suc len) (512 - length word) i ≡ GF512 .zero → getD copy i 0 ≡ 1 - getD word i 0
   pub kept : (i : ℕ) → i < length word → valueAt locator (suc len) (512 - length word) i ≢ GF512 .zero → getD copy i 0 ≡ getD word i 0
   pub count : flips .count ≡ differ copy word
-  pub list : flips .count ≤ 16 → flips .places ≡ listed (places copy word)
+  pub list : flips .count ≤ mostPlaces → flips .places ≡ listed (places copy word)

@@ -8,7 +8,7 @@ use mathlib.Core.List.{List}
 use Prim.Native.Nat.{ℕ, _+_, _-_, _≤_, _<_}
 use lib.Dec.{ltb}
 use lib.ListN.{length, getD, set}
-use Rattle.answers.specs.Answers.{listed}
+use Rattle.answers.specs.Answers.{mostPlaces, listed}
 use Rattle.bits.specs.Words.{differ}
 use Rattle.bits.specs.Places.{places}
 use Rattle.decoder.specs.declared.search.Flips.{Flips}
@@ -19,7 +19,7 @@ NoneIn sums p q = (j : ℕ) → p ≤ j → j < q → getD sums j 0 ≢ 0
 
 -- one place more
 abbrev pub oneMore : Flips → ℕ → Flips
-oneMore flips i = record { count = flips .count + 1; places = cond (ltb (flips .count) 16) (set (flips .places) (flips .count) i) (flips .places) }
+oneMore flips i = record { count = flips .count + 1; places = cond (ltb (flips .count) mostPlaces) (set (flips .places) (flips .count) i) (flips .places) }
 
 -- `copy` is the word, flipped at each index below i at which the sum is 0; the number of those, and the list of them, where it has room for all
 pub record Picked (sums word : List ℕ) (i : ℕ) (copy : List ℕ) (flips : Flips) : Type 0 where
@@ -28,4 +28,4 @@ pub record Picked (sums word : List ℕ) (i : ℕ) (copy : List ℕ) (flips : Fl
   pub kept : (j : ℕ) → j < i → getD sums j 0 ≢ 0 → getD copy j 0 ≡ getD word j 0
   pub behind : (j : ℕ) → i ≤ j → getD copy j 0 ≡ getD word j 0
   pub count : flips .count ≡ differ copy word
-  pub list : flips .count ≤ 16 → flips .places ≡ listed (places copy word)
+  pub list : flips .count ≤ mostPlaces → flips .places ≡ listed (places copy word)

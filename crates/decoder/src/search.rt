@@ -61,8 +61,8 @@ fn hit(v: u16) -> u16
     if v == 0 { 1 } else { 0 }
 }
 
-// How many of eight sums are 0, from p on.
-fn zeros(sums: &[u16], p: usize) -> u16
+// 0 only where none of eight sums is, from p on: how many of them are.
+fn hits_in(sums: &[u16], p: usize) -> u16
     requires { ⌜ p + 8 ≤ length (now sums) ⌝ }
     ensures { λ r. ⌜ (r ≡ 0 → NoneIn (now (sums .entry)) p (p + 8)) ⌝ }
 {
@@ -76,7 +76,7 @@ fn zeros(sums: &[u16], p: usize) -> u16
 }
 
 // One place more, behind those listed, where there is room.
-fn listed(flips: Flips, i: usize) -> Flips
+fn one_more(flips: Flips, i: usize) -> Flips
     requires { ⌜ (flips .count ≤ 508) × (i < 508) ⌝ }
     ensures { λ r. ⌜ r ≡ oneMore flips i ⌝ }
 {
@@ -102,14 +102,14 @@ fn pick(sums: &[u16], word: &[u8], from: usize, end: usize, copy: &mut [u8], bef
     while i < end {
         if sums[i] == 0 {
             copy[i] = 1 - word[i];
-            flips = listed(flips, i);
+            flips = one_more(flips, i);
         }
         i += 1;
     }
     flips
 }
 
-// All places of a word, of which copy is one: eight at which no sum is 0 are passed over at once.
+// Flips in copy, which holds the word, and lists all places at which the sum is 0: eight at which none is are passed over at once.
 fn pick_all(sums: &[u16], word: &[u8], copy: &mut [u8]) -> Flips
     requires { ⌜ Bits (now word) × (length (now word) ≤ 508) × (length (now word) ≤ length (now sums)) × (now copy ≡ now word) ⌝ }
     ensures { λ r. ⌜ Picked (now (sums .entry)) (now (word .entry)) (length (now (word .entry))) (now (copy .exit)) r ⌝ }
@@ -121,7 +121,7 @@ fn pick_all(sums: &[u16], word: &[u8], copy: &mut [u8]) -> Flips
     };
     let mut i: usize = 0;
     while i + 8 <= n {
-        if zeros(sums, i) != 0 {
+        if hits_in(sums, i) != 0 {
             flips = pick(sums, word, i, i + 8, copy, flips);
         }
         i += 8;

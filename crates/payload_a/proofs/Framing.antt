@@ -10,7 +10,8 @@ use Rattle.bits.specs.Words.{Bits, differ}
 use Rattle.bits.proofs.Digits.{bits-take, bits-drop, bits-append}
 use Rattle.bits.proofs.Distances.{differ-append}
 use Rattle.payload_a.specs.Segments.{field1, field2, field3, symbolOf, segment, framed, carriedBy, protectedIn, carried, protected, fields}
-use Rattle.payload_a.proofs.Fields.{sent, bits-symbol, bits-carried-by, length-sent, carried-sent, protected-sent, length-carried-by, length-protected-in}
+use Rattle.payload_a.proofs.Fields.{sent, bits-symbol, bits-carried-by, length-sent, carried-sent, protected-sent}
+use Rattle.payload_a.proofs.Fields.{length-carried-by, length-protected-in}
 
 -- ---- as received
 

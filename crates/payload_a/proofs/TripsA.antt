@@ -5,24 +5,25 @@ use mathlib.Core.Path.{_≡_, refl, sym, ap, ap₂, _∙_}
 use mathlib.Core.Logic.{inl, inr}
 use mathlib.Core.Bool.{true, _&&_}
 use mathlib.Core.List.{List, [], _++_}
-use Prim.Native.Nat.{ℕ, _*_, _≤_, _<_}
+use Prim.Native.Nat.{ℕ, _+_, _*_, _≤_, _<_}
 use native.Mathlib.Omega.{arith}
 use borrow.Author.Tests.{leb-true, eqb-true}
 use lib.Dec.{eqb, leb, ltb}
 use lib.IntN.{ℤ}
-use lib.ListN.{length, take, drop, length-append, length-drop}
-use lib.Seq.{take-at, length-take-le}
-use Rattle.answers.specs.Answers.{accepted, ofWritten, ofReceivedA, listed, ToldBurst, ofBurst, burstOf}
+use lib.ListN.{length, take, drop, length-append, length-drop, take-append-drop}
+use lib.Seq.{take-at, take-all, length-take-le}
+use Rattle.answers.specs.Answers.{accepted, ofWritten, ofReceivedA, listed, ToldBurst, ofBurst}
 use Rattle.answers.specs.Checks.{Checked, fails, passes}
 use Rattle.answers.specs.declared.Told.{Told}
 use Rattle.answers.specs.declared.Written.{Written}
+use Rattle.answers.specs.declared.ReceivedA.the-variants.{Accepted}
 use Rattle.answers.specs.declared.ReceivedBurst.{ReceivedBurst}
-use Rattle.answers.proofs.Telling.{by-test, not-refused}
+use Rattle.answers.proofs.Telling.{burst-told, by-test, not-refused}
 use Rattle.bits.specs.Words.{Bits, differ}
 use Rattle.bits.specs.Places.{places}
 use Rattle.bits.specs.Bytes.{Bytes}
 use Rattle.bits.proofs.Digits.{bits-take, bits-drop}
-use Rattle.bits.proofs.Distances.{differ-self, differ-zero}
+use Rattle.bits.proofs.Distances.{differ-self, differ-zero, differ-append}
 use Rattle.bits.proofs.Placing.{places-self}
 use Rattle.points.specs.declared.Point.{Point}
 use Rattle.points.specs.Constellations.{levelI, levelQ}
@@ -37,7 +38,7 @@ use Rattle.payload.specs.Wire.{blockAt, Fits}
 use Rattle.payload.proofs.Wires.{fits-clean}
 use Rattle.payload_a.specs.Segments.{rowBits, framed, carried, protected, fields}
 use Rattle.payload_a.specs.CodedA.{bytesA, codedA, pointsA, sentI, sentQ}
-use Rattle.payload_a.specs.PromiseA.{elementsA, placesA, sendChecked, Sends, SendingA}
+use Rattle.payload_a.specs.PromiseA.{elementsA, pointCountA, sendChecked, Sends, SendingA}
 use Rattle.payload_a.specs.PromiseA.{receiveChecked, wireA, placesIn, Goes, Answered, Receives, ReceivingA}
 use Rattle.payload_a.proofs.Coding.{bits-codedA, length-codedA}
 use Rattle.payload_a.proofs.Framing.{bits-framed, length-framed, length-carried, bits-carried, carried-framed, protected-framed}
@@ -62,7 +63,7 @@ module _ (P : Checked Unit → Type 0) (failed : (number place : ℕ) → 0 < nu
       by-test P (leb mode 1)
       (λ k. by-test P (room elementsA is qs && leb (bytesA mode) (length area))
       (λ _. by-test P (ltb (firstOccupied is qs 0 elementsA) elementsA) (λ _. failed 7 _ (omega arith))
-      (λ _. by-test P (ltb (strayAt (received 2 is qs)) placesA) (λ _. failed 8 _ (omega arith)) (λ _. on (leb-true mode 1 k))))
+      (λ _. by-test P (ltb (strayAt (received 2 is qs)) pointCountA) (λ _. failed 8 _ (omega arith)) (λ _. on (leb-true mode 1 k))))
       (λ _. failed 3 0 (omega arith)))
       (λ _. failed 1 0 (omega arith))
 
@@ -113,6 +114,17 @@ module _ (mode : ℕ) (frame : List ℕ) (known : mode ≤ 1) (long : length fra
 half-long : (b : ℕ) → b < 2 → (l : List ℕ) → length l ≡ 784 → length (blockAt rowBits b l) ≡ 392
 half-long b low l e = length-take-le 392 (drop (392 * b) l) (omega (arith, length-drop (392 * b) l))
 
+both-halves : (l : List ℕ) → length l ≡ 784 → l ≡ blockAt rowBits 0 l ++ blockAt rowBits 1 l
+both-halves l e =
+    sym (take-append-drop 392 l) ∙ ap (λ (r : List ℕ). take 392 l ++ r) (sym (take-all 392 (drop 392 l) (omega (arith, length-drop 392 l))))
+
+differ-halves : (v w : List ℕ) → length v ≡ 784 → length w ≡ 784
+    → differ (blockAt rowBits 0 v) (blockAt rowBits 0 w) + differ (blockAt rowBits 1 v) (blockAt rowBits 1 w) ≡ differ v w
+differ-halves v w ev ew =
+    sym (ap₂ differ (both-halves v ev) (both-halves w ew)
+    ∙ differ-append (blockAt rowBits 0 v) (blockAt rowBits 0 w) (blockAt rowBits 1 v) (blockAt rowBits 1 w)
+    (half-long 0 (omega arith) v ev ∙ sym (half-long 0 (omega arith) w ew)))
+
 half-bits : (b : ℕ) (l : List ℕ) → Bits l → Bits (blockAt rowBits b l)
 half-bits b l bits = bits-take 392 (drop (392 * b) l) (bits-drop (392 * b) l bits)
 
@@ -131,21 +143,18 @@ module _ (mode : ℕ) (is qs : List ℤ) (area : List ℕ) (answer : ReceivedBur
   in-front : (frame : List ℕ) → length frame ≡ bytesA mode → after ≡ frame ++ drop (bytesA mode) area → take (bytesA mode) after ≡ frame
   in-front frame long left = ap (take (bytesA mode)) left ∙ take-at frame (drop (bytesA mode) area) (bytesA mode) long
 
-  -- without the places
-  told : {t : ToldBurst} → ofBurst answer ≡ t → ofReceivedA (answer .answer) ≡ t .told
-  told = ap (λ (t : ToldBurst). t .told)
-
   abbrev Up : Type 0
   Up = (mode ≤ 1) × Goes mode (carried bits) (differ fields (protected bits)) area answer after
 
   goes : Up
   goes =
-      by-receive (λ k. Receives k mode bits area answer after → Up) (λ number place l p. absurd (not-refused tells (told (p .0)) l)) mode is qs area of-answer receiving
+      by-receive (λ k. Receives k mode bits area answer after → Up) (λ number place l p. absurd (not-refused tells (burst-told answer (p .0)) l))
+      mode is qs area of-answer receiving
     where
       of-answer : mode ≤ 1 → Answered mode (carried bits) (differ fields (protected bits)) area answer after → Up
       of-answer known (inl p) = (known, p)
-      of-answer known (inr (inl p)) = absurd (not-refused tells (told (p .tells)) (omega arith))
-      of-answer known (inr (inr p)) = absurd (not-refused tells (told (p .tells)) (omega arith))
+      of-answer known (inr (inl p)) = absurd (not-refused tells (burst-told answer (p .tells)) (omega arith))
+      of-answer known (inr (inr p)) = absurd (not-refused tells (burst-told answer (p .tells)) (omega arith))
 
   up-is : take (bytesA mode) after ≡ goes .1 .frame
   up-is = in-front (goes .1 .frame) (goes .1 .fits .long) (goes .1 .left)
@@ -159,25 +168,39 @@ module _ (mode : ℕ) (is qs : List ℤ) (area : List ℕ) (answer : ReceivedBur
       (differ (carried (again mode (take (bytesA mode) after))) (carried bits) ≡ mended)
       × (differ (protected (again mode (take (bytesA mode) after))) (protected bits) ≡ differing)
   sent-again =
-      let counts = sym (told (goes .1 .tells)) ∙ tells in
+      let counts = sym (burst-told answer (goes .1 .tells)) ∙ tells in
       let f = goes .1 .frame in
       let long = goes .1 .fits .long in
       rw (up-is, carried-again mode f (goes .0) long, protected-again mode f (goes .0) long)
       (ap (λ (told : Told). told .mended) counts, ap (λ (told : Told). told .protected) counts)
 
-  -- and in each half the list names the places of the bits mended: flipped there, the bits received are those that sending again gives
-  abbrev Named : ℕ → List ℕ → List ℕ → Type 0
-  Named half list sent =
-      Names list (blockAt rowBits half (carried bits)) (blockAt rowBits half sent) (differ (blockAt rowBits half sent) (blockAt rowBits half (carried bits)))
+  -- in how many places a half differs from the one received
+  abbrev hitsIn : ℕ → List ℕ → ℕ
+  hitsIn half sent = differ (blockAt rowBits half sent) (blockAt rowBits half (carried bits))
 
-  pub sent-places : Named 0 (answer .first) (carried (again mode (take (bytesA mode) after))) × Named 1 (answer .second) (carried (again mode (take (bytesA mode) after)))
+  -- and in each half the list names the places of the bits mended: flipped there, the bits received are those that sending again gives
+  abbrev Located : ℕ → List ℕ → List ℕ → Type 0
+  Located half list sent = Names list (blockAt rowBits half (carried bits)) (blockAt rowBits half sent) (hitsIn half sent)
+
+  -- the bits that sending again gives
+  abbrev resent : List ℕ
+  resent = carried (again mode (take (bytesA mode) after))
+
+  -- of both halves together as many as are counted
+  pub sent-places : Located 0 (answer .first) resent × Located 1 (answer .second) resent × (hitsIn 0 resent + hitsIn 1 resent ≡ mended)
   sent-places =
       let f = goes .1 .frame in
       let long = goes .1 .fits .long in
-      rw (up-is, carried-again mode f (goes .0) long)
-      (half 0 (omega arith) (ap (λ (t : ToldBurst). t .first) (goes .1 .tells)), half 1 (omega arith) (ap (λ (t : ToldBurst). t .second) (goes .1 .tells)))
+      let counts = sym (burst-told answer (goes .1 .tells)) ∙ tells in
+      rw (up-is, carried-again mode f (goes .0) long) (
+        half 0 (omega arith) (ap (λ (t : ToldBurst). t .first) (goes .1 .tells)),
+        half 1 (omega arith) (ap (λ (t : ToldBurst). t .second) (goes .1 .tells)),
+        differ-halves (codedA mode f) (carried bits) (length-codedA mode f (goes .0) long) (length-carried bits (length-read is qs))
+            ∙ ap (λ (told : Told). told .mended) counts,
+      )
     where
-      half : (b : ℕ) → b < 2 → {list : List ℕ} → list ≡ listed (placesIn b mode (goes .1 .frame) (carried bits)) → Named b list (codedA mode (goes .1 .frame))
+      half : (b : ℕ) → b < 2 → {list : List ℕ} → list ≡ listed (placesIn b mode (goes .1 .frame) (carried bits))
+          → Located b list (codedA mode (goes .1 .frame))
       half b l =
           let f = goes .1 .frame in
           names (blockAt rowBits b (codedA mode f)) (blockAt rowBits b (carried bits))
@@ -185,7 +208,7 @@ module _ (mode : ℕ) (is qs : List ℤ) (area : List ℕ) (answer : ReceivedBur
           (half-long b l (codedA mode f) (length-codedA mode f (goes .0) (goes .1 .fits .long))
           ∙ sym (half-long b l (carried bits) (length-carried bits (length-read is qs))))
 
--- an uncoded answer lists no place, whatever it is
+-- an uncoded answer lists no place, accepted or refused
 module _ (is qs : List ℤ) (area : List ℕ) (answer : ReceivedBurst) (after : List ℕ) where
   abbrev NoPlace : Type 0
   NoPlace = (answer .first ≡ listed []) × (answer .second ≡ listed [])
@@ -211,13 +234,17 @@ module _ (is qs : List ℤ) (area : List ℕ) (answer : ReceivedBurst) (after : 
 
 -- ---- a frame goes up exactly when it fits
 
+-- the answer for a burst that is accepted
+abbrev pub burstOf : ℕ → ℕ → List ℕ → List ℕ → ReceivedBurst
+burstOf mended protected first second = record { answer = Accepted mended protected; first = listed first; second = listed second }
+
 -- a call of legal lengths, with legal points and empty unavailable sub-carriers
 pub record Legal (mode : ℕ) (is qs : List ℤ) (area : List ℕ) : Type 0 where
   pub known : mode ≤ 1
   pub points : true ≡ room elementsA is qs
   pub room : bytesA mode ≤ length area
   pub empty : firstOccupied is qs 0 elementsA ≡ elementsA
-  pub legal : strayAt (received 2 is qs) ≡ placesA
+  pub legal : strayAt (received 2 is qs) ≡ pointCountA
 
 -- a frame goes up: the call is accepted, with so many bits mended and so many protected bits that differ, and the frame stands at the front of the area
 abbrev pub GoesUp : ℕ → List ℕ → ReceivedBurst → List ℕ → List ℕ → ℕ → ℕ → Type 0
@@ -233,7 +260,7 @@ module _ (mode : ℕ) (is qs : List ℤ) (area : List ℕ) (call : Legal mode is
   Near = (block : ℕ) → block < 2 → differ (blockAt rowBits block (codedA mode frame)) (blockAt rowBits block word) ≤ wireA mode .mends
 
   -- it is answered so, with the places of each half
-  answered-near : Near
+  pub answered-near : Near
       → (answer ≡ burstOf (differ (codedA mode frame) word) (differ fields (protected (dibits (received 2 is qs))))
       (placesIn 0 mode frame word) (placesIn 1 mode frame word))
       × (after ≡ frame ++ drop (bytesA mode) area)
@@ -284,8 +311,8 @@ module _ (mode : ℕ) (frame : List ℕ) (known : mode ≤ 1) (long : length fra
       (simp (word, field, differ-self, places-self) at (up .0), up .1)
 
 module _ (mode : ℕ) (frame : List ℕ) (is qs : List ℤ) (sent : Written) (is' qs' : List ℤ) (sending : SendingA mode frame is qs sent is' qs')
-    (written : ofWritten sent ≡ accepted 0 0) (bytes : Bytes frame) (area : List ℕ) (roomy : bytesA mode ≤ length area) (answer : ReceivedBurst) (after : List ℕ)
-    (receiving : ReceivingA mode is' qs' area answer after) where
+    (written : ofWritten sent ≡ accepted 0 0) (bytes : Bytes frame) (area : List ℕ) (roomy : bytesA mode ≤ length area)
+    (answer : ReceivedBurst) (after : List ℕ) (receiving : ReceivingA mode is' qs' area answer after) where
   -- clean points give back the frame that was sent, with nothing mended, no protected bit that differs, and no place listed
   pub round-trip : (answer ≡ burstOf 0 0 [] []) × (after ≡ frame ++ drop (bytesA mode) area)
   round-trip =

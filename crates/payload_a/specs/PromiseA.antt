@@ -27,8 +27,8 @@ use Rattle.payload_a.specs.CodedA.{bytesA, codedA, sentI, sentQ}
 abbrev pub elementsA : ℕ
 elementsA = 2 * subCarriers
 
-abbrev pub placesA : ℕ
-placesA = 2 * symbolPoints
+abbrev pub pointCountA : ℕ
+pointCountA = 2 * symbolPoints
 
 -- ---- send
 
@@ -51,7 +51,7 @@ SendingA mode frame is qs = Sends (sendChecked mode frame is qs) mode frame is q
 abbrev pub pointsChecked : List ℤ → List ℤ → Checked Unit
 pointsChecked is qs =
     cond (ltb (firstOccupied is qs 0 elementsA) elementsA) (fails 7 (firstOccupied is qs 0 elementsA))
-    (cond (ltb (strayAt (received 2 is qs)) placesA) (fails 8 (indexOf (strayAt (received 2 is qs)))) (passes tt))
+    (cond (ltb (strayAt (received 2 is qs)) pointCountA) (fails 8 (indexOf (strayAt (received 2 is qs)))) (passes tt))
 
 -- checks 1 and 3 before them
 abbrev pub receiveChecked : ℕ → List ℤ → List ℤ → List ℕ → Checked Unit

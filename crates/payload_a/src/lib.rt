@@ -8,13 +8,10 @@ ghost use Rattle.payload_a.specs.CodedA.{bytesA};
 pub mod check;
 pub mod segments;
 
-use symbols::grid::POINTS;
 use symbols::grid::SUB_CARRIERS;
 
-// The elements of I and of Q that two OFDM symbols take, and the points that they hold.
+// The elements of I and of Q that two OFDM symbols take.
 pub const ELEMENTS: usize = 2 * SUB_CARRIERS;
-
-pub const PLACES: usize = 2 * POINTS;
 
 // The bytes of a frame.
 pub fn bytes_a(mode: u8) -> usize

@@ -54,7 +54,8 @@ module _ (mode : ℕ) (frame : List ℕ) (is qs : List ℤ) (sent : Written) (is
       by (yes e) =
           let told : ofWritten sent ≡ accepted 0 0 = sent-told ∙ rw (eq-eqb (length frame) (bytesA mode) e) in
           rw (eq-eqb (length frame) (bytesA mode) e)
-          (ap (λ (r : ReceivedBurst). ofReceivedA (r .answer)) (round-trip mode frame is qs sent is' qs' sending told (bytes-from frame bytes) area roomy answer after receiving .0))
+          (ap (λ (r : ReceivedBurst). ofReceivedA (r .answer))
+          (round-trip mode frame is qs sent is' qs' sending told (bytes-from frame bytes) area roomy answer after receiving .0))
       by (no n) =
           let told : ofWritten sent ≡ refused 2 0 = sent-told ∙ rw (ne-eqb (length frame) (bytesA mode) n) in
           let z : _≡_ {A = ℕ} 2 0 = ap (λ (t : Told). t .number) (sym told) ∙ is-sent in

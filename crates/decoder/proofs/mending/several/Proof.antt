@@ -1,4 +1,4 @@
--- `decoder::mending::several` meets its contract: where a codeword lies within t, the locator's places lead to it, and it is the answer exactly where the copy is one.
+-- `decoder::mending::several` meets its contract: where a codeword lies within t, the locator's places lead to it, and a copy that is one is the answer.
 -- Assumes nothing.
 use mathlib.Core.Path.{refl, sym, ap, _∙_}
 use mathlib.Core.Logic.{inr}
@@ -36,7 +36,8 @@ flip-requires c κs =
     )
 
 -- what was flipped is the only candidate
-only : (c : tie.After-flip) → Candidate (codeOf (start (found c) .args .c)) (start (found c) .args .bits .now) (c .flip .last .1 .1 .1 .1 .1 .0) (c .flip .result)
+only : (c : tie.After-flip)
+    → Candidate (codeOf (start (found c) .args .c)) (start (found c) .args .bits .now) (c .flip .last .1 .1 .1 .1 .1 .0) (c .flip .result)
 only c =
     let q = found c in
     let s = start q in

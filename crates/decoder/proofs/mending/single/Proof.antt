@@ -23,7 +23,8 @@ abbrev place : tie.Start → ℕ
 place s = s .args .c .n - 1 - getD (s .args .logs .now) (getD (s .args .s .now) 0 0 % 512) 0
 
 flipped : (q : tie.After-copy)
-    → Neighbour (start q .args .bits .now) (set (q .copy .last .1 .0) (place (start q)) (1 - getD (start q .args .bits .now) (place (start q)) 0)) (place (start q))
+    → Neighbour (start q .args .bits .now) (set (q .copy .last .1 .0) (place (start q)) (1 - getD (start q .args .bits .now) (place (start q)) 0))
+    (place (start q))
 flipped q =
     let s = start q in
     neighbour (s .args .bits .now) (s .args .copy .now) (s .args .c .n) (place s) (s .pre .0 .bits) (s .pre .0 .long) (s .pre .1)

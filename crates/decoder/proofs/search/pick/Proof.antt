@@ -26,8 +26,8 @@ sub-copy c =
     let s = c .before .before .before .before .before .before .before .before in
     omega (arith, bits-at (s .args .word .now) (s .pre .0 .0) (c .before .before .before .before .loop .i))
 
-listed-requires : tie.Need-listed-requires Inv-loop μ-loop
-listed-requires c κs =
+one-more-requires : tie.Need-one-more-requires Inv-loop μ-loop
+one-more-requires c κs =
     let loop = c .before .before .before .before .loop in
     let s = c .before .before .before .before .before .before .before .before in
     (omega (arith, picked-few (loop .inv .1), s .pre .0 .1), omega (arith, s .pre .0 .1, s .pre .0 .3))
@@ -61,7 +61,7 @@ pick-spec =
     (λ c. search needs)
     sub-copy
     (λ c. search needs)
-    listed-requires
+    one-more-requires
     (λ c. search needs)
     (λ c. search needs)
     loop-again

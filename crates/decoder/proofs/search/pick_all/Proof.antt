@@ -1,6 +1,5 @@
 -- `decoder::search::pick_all` meets its contract: the places are picked, or passed over by eights.
 -- Assumes nothing.
-use mathlib.Core.Path.{_≡_}
 use mathlib.Core.Logic.{⊎-elim}
 use Prim.Native.Nat.{_+_, _-_, _≤_}
 use native.Mathlib.Omega.{arith}
@@ -23,8 +22,8 @@ loop-holds c = let s = c .before .before .before in (omega arith, rw (s .pre .3)
 add-loop : tie.Need-add-loop Inv-loop μ-loop
 add-loop c = record { fits = omega (arith, c .loop .inv .0, c .before .before .before .before .pre .1) }
 
-zeros-requires : tie.Need-zeros-requires Inv-loop μ-loop
-zeros-requires c κs = omega (arith, c .before .before .before .before .before .pre .2)
+hits-in-requires : tie.Need-hits-in-requires Inv-loop μ-loop
+hits-in-requires c κs = omega (arith, c .before .before .before .before .before .pre .2)
 
 pick-requires : tie.Need-pick-requires Inv-loop μ-loop
 pick-requires c κs =
@@ -36,7 +35,7 @@ loop-again c =
     let loop = c .before .before .before .loop in (
       omega arith,
       ⊎-elim (λ w. rw (w .5, w .6) (w .2 .ensures))
-          (λ w. rw (w .1, w .2) (picked-over (loop .inv .1) (loop .i + 8) (omega arith) (c .before .zeros .ensures (w .0 .left))))
+          (λ w. rw (w .1, w .2) (picked-over (loop .inv .1) (loop .i + 8) (omega arith) (c .before .hits-in .ensures (w .0 .left))))
           (c .if1 .came),
     )
 
@@ -56,7 +55,7 @@ pick-all-spec =
     μ-loop
     loop-holds
     add-loop
-    zeros-requires
+    hits-in-requires
     (λ c. search needs)
     pick-requires
     (λ c. search needs)

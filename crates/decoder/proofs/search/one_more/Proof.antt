@@ -1,4 +1,4 @@
--- `decoder::search::listed` meets its contract.
+-- `decoder::search::one_more` meets its contract.
 -- Assumes nothing.
 use mathlib.Core.Path.{ap}
 use mathlib.Core.Logic.{⊎-elim}
@@ -7,8 +7,8 @@ use Prim.Native.Nat.{ℕ, _+_}
 use borrow.Author.Tests.{lt-ltb, le-ltb}
 use Rattle.decoder.specs.declared.search.Flips.{Flips}
 use borrow.Author.Needs.{needs}
-use Rattle.decoder.proofs.search.listed.Statement.{statement}
-use Rattle.decoder.proofs.search.listed.Tie as tie
+use Rattle.decoder.proofs.search.one_more.Statement.{statement}
+use Rattle.decoder.proofs.search.one_more.Tie as tie
 
 -- one more, with a list
 abbrev more : Flips → List ℕ → Flips
@@ -20,5 +20,5 @@ returns c =
     ⊎-elim (λ w. rw (lt-ltb (flips .count) 16 (w .0 .taken)) (ap (more flips) (w .1))) (λ w. rw (le-ltb (flips .count) 16 (w .0 .left)) (ap (more flips) (w .1)))
     (c .if1 .came)
 
-pub listed-spec : {M : Type 1} → statement M
-listed-spec = tie.close (tie.spec (λ c. search needs) (λ c. search needs) (λ c. search needs) (λ c. search needs) returns)
+pub one-more-spec : {M : Type 1} → statement M
+one-more-spec = tie.close (tie.spec (λ c. search needs) (λ c. search needs) (λ c. search needs) (λ c. search needs) returns)
