@@ -1,5 +1,5 @@
-//! What a job answers: its counts and the mended places of request 10, or one of document 01's numbered refusals with
-//! a place.
+//! What a job answers: its counts and the mended places of request 10, or a refusal with a number and a place. The
+//! numbers are document 01's 1 to 10, and request 3's 11.
 
 /// Why a job was refused. The cases stand in the order of their numbers, not in the order of the checks.
 #[derive(Clone, Copy, Debug, PartialEq, Eq)]
@@ -24,10 +24,15 @@ pub enum Refusal {
     Hopeless(usize),
     /// The frame check is wrong.
     WrongCheck,
+    /// More than 12 of the 56 protected bits of Payload A differ.
+    Noise,
 }
 
+/// How many numbers there are, with 0 for accepted.
+pub const NUMBERS: usize = 12;
+
 impl Refusal {
-    /// Document 01's number.
+    /// Its number, 1 to 11.
     pub fn number(self) -> u8 {
         match self {
             Refusal::Unknown => 1,
@@ -40,10 +45,11 @@ impl Refusal {
             Refusal::Stray(_) => 8,
             Refusal::Hopeless(_) => 9,
             Refusal::WrongCheck => 10,
+            Refusal::Noise => 11,
         }
     }
 
-    /// Document 01's place: 0 where none is named.
+    /// Its place: 0 where none is named.
     pub fn place(self) -> u64 {
         match self {
             Refusal::NotABit(p)
@@ -85,7 +91,7 @@ pub struct Counts {
 
 pub type Answer = Result<Counts, Refusal>;
 
-/// Accepts, or refuses for this reason: lets a job list its checks in document 01's order, a line each.
+/// Accepts, or refuses for this reason: lets a job list its checks in their order, a line each.
 pub fn check(holds: bool, otherwise: Refusal) -> Result<(), Refusal> {
     if holds {
         Ok(())
@@ -105,6 +111,8 @@ mod tests {
         assert_eq!(Refusal::BadScheme(210).place(), 210);
         assert_eq!(Refusal::WrongCheck.number(), 10);
         assert_eq!(Refusal::WrongCheck.place(), 0);
+        assert_eq!(Refusal::Noise.number() as usize, NUMBERS - 1);
+        assert_eq!(Refusal::Noise.place(), 0);
     }
 
     #[test]

@@ -327,9 +327,8 @@ mod tests {
         for index in [0, 1] {
             let stray = |request: &mut Request| {
                 let answer = request.call();
-                match request {
-                    Request::SendA { i, .. } => i[index] = 7,
-                    _ => {}
+                if let Request::SendA { i, .. } = request {
+                    i[index] = 7;
                 }
                 answer
             };

@@ -36,12 +36,17 @@ struct Faults(Vec<u8>);
 impl Faults {
     /// None in two sixths, one in two sixths, one or two in a sixth, any in a sixth.
     fn aim(rng: &mut Rng, numbers: &[u8]) -> Faults {
-        Faults(match rng.below(6) {
-            0 | 1 => vec![],
-            2 | 3 => vec![rng.pick(numbers)],
-            4 => vec![rng.pick(numbers), rng.pick(numbers)],
-            _ => numbers.iter().copied().filter(|_| rng.once_in(3)).collect(),
-        })
+        match rng.below(6) {
+            0 | 1 => Faults(vec![]),
+            2 | 3 => Faults(vec![rng.pick(numbers)]),
+            4 => Faults(vec![rng.pick(numbers), rng.pick(numbers)]),
+            _ => Faults::any_of(rng, numbers),
+        }
+    }
+
+    /// Each of them once in three times, whatever the others are.
+    fn any_of(rng: &mut Rng, numbers: &[u8]) -> Faults {
+        Faults(numbers.iter().copied().filter(|_| rng.once_in(3)).collect())
     }
 
     fn has(&self, number: u8) -> bool {
@@ -99,8 +104,9 @@ fn place(rng: &mut Rng, count: usize) -> usize {
 #[cfg(test)]
 mod tests {
     use super::*;
+    use crate::answer::NUMBERS;
     use crate::stray::{Kind, Legal};
-    use crate::tally::Tally;
+    use crate::tally::{protected::RESTS, Tally};
 
     #[test]
     fn the_same_seed_gives_the_same_requests() {
@@ -118,12 +124,12 @@ mod tests {
             &[0, 1, 2, 3, 4],
             &[0, 1, 2, 3, 4, 9],
             &[0, 1, 2, 3],
-            &[0, 1, 3, 7, 8, 9, 10],
+            &[0, 1, 3, 7, 8, 9, 10, 11],
             &[0, 1, 2, 3, 5, 6],
             &[0, 1, 2, 3, 5, 6, 7, 8, 9],
         ];
         for (job, numbers) in numbers.iter().enumerate() {
-            for number in 0..=10 {
+            for number in 0..NUMBERS {
                 let seen = tally.seen[job][number];
                 assert_eq!(numbers.contains(&number), seen > 0, "job {} number {number}: {seen}", job + 1);
                 assert!(seen == 0 || seen >= 5);
@@ -174,6 +180,30 @@ mod tests {
             assert_eq!(lists.len(), from.0 as usize / 2);
             assert!(lists.iter().all(|list| list.first > 0 && list.last > 0), "{from:?}");
         }
+    }
+
+    /// The fewest bursts of a row of `RESTS` in which this number of protected bits differed.
+    fn fewest(tally: &Tally, differing: u64) -> u64 {
+        let of_row =
+            |(mode, rest, _)| tally.protected.count(|b| (b.mode, b.rest, b.differing) == (mode, rest, differing));
+        RESTS.map(of_row).into_iter().min().expect("rows")
+    }
+
+    #[test]
+    fn every_count_of_protected_bits_decides_answers_in_both_modes() {
+        let tally = Tally::of(1, 20_000, &[4]);
+        for mode in [0, 1] {
+            assert_eq!(tally.reached[&(4, mode)].protected, (0..=12).collect());
+            assert_eq!(tally.protected.of_noise(mode), (13..=56).collect());
+        }
+        assert!([0, 1, 2, 12, 13, 56].iter().all(|&differing| fewest(&tally, differing) >= 20), "{tally}");
+    }
+
+    #[test]
+    fn both_edges_of_noise_come_among_the_committed_requests() {
+        let tally = Tally::of(1, 1_500, &[1, 2, 3, 4, 5, 6]);
+        assert!([12, 13].iter().all(|&differing| fewest(&tally, differing) > 0), "{tally}");
+        assert!([0, 1].iter().all(|&mode| tally.protected.of_noise(mode).contains(&56)), "{tally}");
     }
 
     #[test]

@@ -1,12 +1,12 @@
 //! The independent second program of Ortkaveq: HiNoC payload coding (ITU-T J.195.2, as document 01 reads it, with the
-//! frame check of request 6 and the mended places of request 10) written a second time, in another language and by
-//! other methods than the proved crates, so that the two can be compared.
+//! refusal of noise of request 3, the frame check of request 6 and the mended places of request 10) written a second
+//! time, in another language and by other methods than the proved crates, so that the two can be compared.
 //!
 //! In the order data flows:
 //!
 //! | module | idea |
 //! |---|---|
-//! | `answer` | document 01's refusal numbers and places; lists of mended places |
+//! | `answer` | the refusal numbers of document 01 and request 3, and places; lists of mended places |
 //! | `field`, `logs` | GF(512) by carry-less multiplication; products by logarithms built from it at start-up |
 //! | `poly`, `bch` | division of bit vectors; the three codes, decoded by Peterson's linear equations |
 //! | `points`, `dqpsk`, `grid` | Annex B as printed and its repairs; Table 1; equation 4 |

@@ -21,6 +21,9 @@ const FIELD_1: &[u8] = &[1, 1, 1, 1, 1, 1, 1, 1, 1, 0];
 const FIELD_2: &[u8] = &[1; 10];
 const FIELD_3: &[u8] = &[1; 8];
 
+/// The most protected bits that may differ: with more the points are noise (request 3).
+pub const MOST_DIFFERING: u64 = 12;
+
 /// Bytes of a frame in this mode, if there is such a mode.
 pub fn frame_bytes(mode: u8) -> Option<usize> {
     match mode {
@@ -55,6 +58,7 @@ pub fn receive_by(rule: Rule, mode: u8, i: &[i16], q: &[i16], area: &mut [u8]) -
     let length = frame_bytes(mode).ok_or(Refusal::Unknown)?;
     check(i.len() >= POINTS && q.len() >= POINTS && area.len() >= length, Refusal::NoRoom)?;
     let (received, protected) = without_fields(&framed(i, q)?);
+    check(protected <= MOST_DIFFERING, Refusal::Noise)?;
     let (information, [first, second]) = decoded(mode, &received)?;
     let plain = scrambler::scrambled(&information);
     let (message, sum) = plain.split_at(8 * length);
@@ -105,8 +109,13 @@ pub fn with_fields(sent: &[u8]) -> Vec<u8> {
         .collect()
 }
 
+/// Where the 56 protected bits stand in the 840.
+pub fn field_places() -> Vec<usize> {
+    (0..840).filter(|place| matches!(place % 420, 0..=9 | 206..=215 | 412..=419)).collect()
+}
+
 /// The four segments of 840 bits, and how many of the 56 protected bits differ.
-fn without_fields(framed: &[u8]) -> (Vec<u8>, u64) {
+pub fn without_fields(framed: &[u8]) -> (Vec<u8>, u64) {
     let (mut segments, mut differing) = (Vec::new(), 0);
     for symbol in framed.chunks(framed.len() / SYMBOLS) {
         let mut rest = symbol;
@@ -124,6 +133,13 @@ fn without_fields(framed: &[u8]) -> (Vec<u8>, u64) {
     (segments, differing as u64)
 }
 
+/// The points of 840 bits on a grid of their own, I and Q.
+pub fn on_grid(framed: &[u8]) -> (Vec<i16>, Vec<i16>) {
+    let (mut i, mut q) = (vec![0; POINTS], vec![0; POINTS]);
+    grid::write(&dqpsk::points(framed), &mut i, &mut q);
+    (i, q)
+}
+
 /// Checks 7 and 8, and the 840 bits of the points.
 pub fn framed(i: &[i16], q: &[i16]) -> Result<Vec<u8>, Refusal> {
     grid::check_unavailable(SYMBOLS, i, q)?;
@@ -138,7 +154,7 @@ fn legal_points(i: &[i16], q: &[i16]) -> Result<Vec<Point>, Refusal> {
 }
 
 #[cfg(test)]
-mod tests {
+pub(crate) mod tests {
     use super::*;
     use crate::rng::Rng;
 
@@ -171,15 +187,13 @@ mod tests {
         }
     }
 
-    /// The points of 784 bits hit in these places, and of protected bits hit in these.
-    fn hit(frame: &[u8], places: &[usize], fields: &[usize]) -> (Vec<i16>, Vec<i16>) {
-        let mut sent = coded(1, &scrambler::scrambled(&with_check(frame)));
+    /// The points of a message and its check, hit in these places of the 784 bits, and then in these of the 840.
+    pub(crate) fn hit(mode: u8, information: &[u8], places: &[usize], fields: &[usize]) -> (Vec<i16>, Vec<i16>) {
+        let mut sent = coded(mode, &scrambler::scrambled(information));
         places.iter().for_each(|&p| sent[p] ^= 1);
         let mut framed = with_fields(&sent);
         fields.iter().for_each(|&p| framed[p] ^= 1);
-        let (mut i, mut q) = (vec![0; POINTS], vec![0; POINTS]);
-        grid::write(&dqpsk::points(&framed), &mut i, &mut q);
-        (i, q)
+        on_grid(&framed)
     }
 
     #[test]
@@ -190,7 +204,7 @@ mod tests {
                 let frame = rng.bytes(58);
                 let mut places = rng.distinct(first, 392);
                 places.extend(rng.distinct(second, 392).iter().map(|p| p + 392));
-                let (i, q) = hit(&frame, &places, &[0, 419, 420, 839, 206]);
+                let (i, q) = hit(1, &with_check(&frame), &places, &[0, 419, 420, 839, 206]);
                 let mut area = vec![1; 58];
                 let answer = receive(1, &i, &q, &mut area);
                 if first <= 16 && second <= 16 {
@@ -210,7 +224,7 @@ mod tests {
 
     /// The lists of a frame hit in these places of the 784 bits, which is mended.
     fn lists(places: &[usize]) -> [[u16; 16]; 2] {
-        let (i, q) = hit(&[7; 58], places, &[]);
+        let (i, q) = hit(1, &with_check(&[7; 58]), places, &[]);
         let mut area = vec![1; 58];
         let counts = receive(1, &i, &q, &mut area).unwrap();
         assert_eq!((counts.mended, counts.protected, area), (places.len() as u64, 0, vec![7; 58]));
@@ -241,12 +255,7 @@ mod tests {
     #[test]
     fn uncoded_frames_have_no_places() {
         let frame = [8; 94];
-        let mut framed = with_fields(&coded(0, &scrambler::scrambled(&with_check(&frame))));
-        for place in [0, 206, 839] {
-            framed[place] ^= 1;
-        }
-        let (mut i, mut q) = (vec![0; POINTS], vec![0; POINTS]);
-        grid::write(&dqpsk::points(&framed), &mut i, &mut q);
+        let (i, q) = hit(0, &with_check(&frame), &[], &[0, 206, 839]);
         let mut area = vec![1; 94];
         let counts = Counts { mended: 0, protected: 3, places: [[0; 16]; 2] };
         assert_eq!(receive(0, &i, &q, &mut area), Ok(counts));
@@ -284,9 +293,131 @@ mod tests {
         let mut rng = Rng::new(9);
         let mut information = with_check(&rng.bytes(58));
         information[495] ^= 1;
-        let framed = with_fields(&coded(1, &scrambler::scrambled(&information)));
-        let (mut i, mut q) = (vec![0; POINTS], vec![0; POINTS]);
-        grid::write(&dqpsk::points(&framed), &mut i, &mut q);
+        let (i, q) = hit(1, &information, &[], &[]);
         assert_eq!(receive(1, &i, &q, &mut [0; 58]), Err(Refusal::WrongCheck));
+    }
+
+    #[test]
+    fn protected_bits_are_those_around_the_segments() {
+        let (zeros, ones) = (with_fields(&[0; 784]), with_fields(&[1; 784]));
+        let same: Vec<usize> = (0..840).filter(|&place| zeros[place] == ones[place]).collect();
+        assert_eq!((field_places().len(), field_places()), (56, same));
+    }
+
+    /// Bursts of a mode: whether the check is right, how many hits each half has, and why they are refused with all
+    /// protected bits right, if they are.
+    fn bursts(mode: u8) -> &'static [(bool, [usize; 2], Option<Refusal>)] {
+        if mode == 0 {
+            return &[
+                (true, [0, 0], None),
+                (true, [1, 0], Some(Refusal::WrongCheck)),
+                (true, [17, 17], Some(Refusal::WrongCheck)),
+                (false, [0, 0], Some(Refusal::WrongCheck)),
+            ];
+        }
+        &[
+            (true, [0, 0], None),
+            (true, [1, 0], None),
+            (true, [0, 15], None),
+            (true, [16, 16], None),
+            (true, [17, 0], Some(Refusal::Hopeless(0))),
+            (true, [16, 17], Some(Refusal::Hopeless(1))),
+            (false, [0, 0], Some(Refusal::WrongCheck)),
+            (false, [16, 16], Some(Refusal::WrongCheck)),
+            (false, [0, 20], Some(Refusal::Hopeless(1))),
+        ]
+    }
+
+    #[test]
+    fn twelve_protected_bits_may_differ_and_more_are_refused_with_11_before_9_and_10() {
+        let mut rng = Rng::new(10);
+        for (mode, length) in [(0, 94), (1, 58)] {
+            let each = bursts(mode).iter().flat_map(|burst| (0..=56).map(move |differing| (burst, differing)));
+            for (&(right, [first, second], otherwise), differing) in each {
+                let frame = rng.bytes(length);
+                let mut information = with_check(&frame);
+                information[8 * length + rng.below(32)] ^= !right as u8;
+                let mut places = rng.distinct(first, 392);
+                places.extend(rng.distinct(second, 392).iter().map(|p| p + 392));
+                let fields: Vec<usize> = rng.distinct(differing, 56).iter().map(|&n| field_places()[n]).collect();
+                let (i, q) = hit(mode, &information, &places, &fields);
+                let mut area = vec![0xEE; length + 2];
+                let answer = receive(mode, &i, &q, &mut area).map(|counts| (counts.mended, counts.protected));
+                let refusal = if differing > 12 { Some(Refusal::Noise) } else { otherwise };
+                let accepted = Ok(((first + second) as u64, differing as u64));
+                assert_eq!(answer, refusal.map_or(accepted, Err), "mode {mode}, {first} and {second} hits");
+                let written = if refusal.is_none() { length } else { 0 };
+                assert_eq!(area, [&frame[..written], &vec![0xEE; length + 2 - written]].concat());
+            }
+        }
+    }
+
+    #[test]
+    fn each_of_the_56_protected_bits_counts() {
+        let places = field_places();
+        for (mode, length) in [(0, 94), (1, 58)] {
+            let information = with_check(&vec![5; length]);
+            let received = |fields: &[usize]| {
+                let (i, q) = hit(mode, &information, &[], fields);
+                receive(mode, &i, &q, &mut vec![0; length]).map(|counts| counts.protected)
+            };
+            for first in 0..56 {
+                let thirteen: Vec<usize> = (first..first + 13).map(|number| places[number % 56]).collect();
+                assert_eq!(received(&thirteen[..1]), Ok(1));
+                assert_eq!(received(&thirteen[1..]), Ok(12));
+                assert_eq!(received(&thirteen[..12]), Ok(12));
+                assert_eq!(received(&thirteen), Err(Refusal::Noise));
+            }
+        }
+    }
+
+    #[test]
+    fn bits_beside_the_fields_are_not_protected() {
+        let beside = [10, 205, 216, 411, 430, 625, 636, 831];
+        let fields = [&field_places()[22..34], &beside].concat();
+        let (i, q) = hit(1, &with_check(&[5; 58]), &[], &fields);
+        let counts = receive(1, &i, &q, &mut [0; 58]).unwrap();
+        assert_eq!((counts.mended, counts.protected), (8, 12));
+        let (i, q) = hit(0, &with_check(&[5; 94]), &[], &fields);
+        assert_eq!(receive(0, &i, &q, &mut [0; 94]), Err(Refusal::WrongCheck));
+    }
+
+    #[test]
+    fn points_that_do_not_turn_are_noise() {
+        // Bits of zeros: all protected bits differ but the last of field 1 in each symbol.
+        let (i, q) = on_grid(&[0; 840]);
+        assert!(grid::read(2, &i, &q).all(|(_, point)| point == (1, 0)));
+        assert_eq!(without_fields(&[0; 840]), (vec![0; 784], 54));
+        for mode in [0, 1] {
+            assert_eq!(receive(mode, &i, &q, &mut [0; 94]), Err(Refusal::Noise));
+        }
+    }
+
+    #[test]
+    fn number_11_goes_behind_1_3_7_and_8() {
+        for (mode, length) in [(0, 94), (1, 58)] {
+            for differing in [13, 56] {
+                // Hopeless in both halves, or with a wrong check.
+                let places: Vec<usize> = (0..20).chain(392..412).collect();
+                let (mut i, mut q) =
+                    hit(mode, &with_check(&vec![5; length]), &places, &field_places()[56 - differing..]);
+                let mut area = vec![9; length];
+                assert_eq!(receive(mode, &i, &q, &mut area), Err(Refusal::Noise));
+                assert_eq!(receive(2, &i, &q, &mut area), Err(Refusal::Unknown));
+                assert_eq!(receive(mode, &i[..511], &q, &mut area), Err(Refusal::NoRoom));
+                assert_eq!(receive(mode, &i, &q[..511], &mut area), Err(Refusal::NoRoom));
+                assert_eq!(receive(mode, &i, &q, &mut area[1..]), Err(Refusal::NoRoom));
+                // The last point in s order, the first one, and the last and first unavailable sub-carriers.
+                (i[256 + 105], q[256 + 105]) = (1, 1);
+                assert_eq!(receive(mode, &i, &q, &mut area), Err(Refusal::Stray(361)));
+                (i[151], q[151]) = (0, 0);
+                assert_eq!(receive(mode, &i, &q, &mut area), Err(Refusal::Stray(151)));
+                q[256 + 150] = 1;
+                assert_eq!(receive(mode, &i, &q, &mut area), Err(Refusal::Filled(406)));
+                i[0] = -1;
+                assert_eq!(receive(mode, &i, &q, &mut area), Err(Refusal::Filled(0)));
+                assert_eq!(area, vec![9; length]);
+            }
+        }
     }
 }

@@ -1,14 +1,16 @@
 //! What the requests of a seed bring up: each refusal number of each job and its places; of the words, bursts and
 //! frames that came as far as the decoder, by code or mode, how many, which counts, and which lists of mended places;
-//! and the kinds of stray points.
+//! the protected bits that differed; and the kinds of stray points.
 
 mod lists;
+pub mod protected;
 mod strays;
 
-use crate::answer::{Answer, Refusal};
+use crate::answer::{Answer, Refusal, NUMBERS};
 use crate::hostile;
 use crate::trial::{Request, JOBS};
 use lists::Lists;
+use protected::Protected;
 use std::collections::{BTreeMap, BTreeSet};
 use std::fmt;
 use strays::Strays;
@@ -16,11 +18,13 @@ use strays::Strays;
 #[derive(Default)]
 pub struct Tally {
     /// How often, by job - 1 and number.
-    pub seen: [[u64; 11]; 6],
+    pub seen: [[u64; NUMBERS]; 6],
     /// At which places, by job - 1 and number.
-    places: [[BTreeSet<u64>; 11]; 6],
+    places: [[BTreeSet<u64>; NUMBERS]; 6],
     /// What came as far as the decoder, by job and by code or mode.
     pub reached: BTreeMap<(u8, u8), Reached>,
+    /// The bursts of Payload A that came as far as their protected bits.
+    pub protected: Protected,
     /// The stray points that were refused.
     pub strays: Strays,
 }
@@ -29,7 +33,7 @@ pub struct Reached {
     calls: u64,
     /// Counts of accepted answers.
     pub mended: BTreeSet<u64>,
-    protected: BTreeSet<u64>,
+    pub protected: BTreeSet<u64>,
     /// Lists of accepted answers.
     pub lists: Lists,
 }
@@ -69,6 +73,9 @@ impl Tally {
                 reached.lists.add(counts);
             }
         }
+        if job == 4 && matches!(number, 0 | 9 | 10 | 11) {
+            self.protected.add(request, answer);
+        }
         if let Err(Refusal::Stray(index)) = *answer {
             self.strays.add(request, index);
         }
@@ -79,7 +86,7 @@ impl fmt::Display for Tally {
     fn fmt(&self, f: &mut fmt::Formatter) -> fmt::Result {
         let head = |f: &mut fmt::Formatter, title| {
             write!(f, "{title:12}")?;
-            (0..=10).try_for_each(|number| write!(f, "{number:>8}"))
+            (0..NUMBERS).try_for_each(|number| write!(f, "{number:>8}"))
         };
         head(f, "number")?;
         for (job, seen) in JOBS.iter().zip(&self.seen) {
@@ -106,7 +113,7 @@ impl fmt::Display for Tally {
             }
             write!(f, "{}", reached.lists)?;
         }
-        write!(f, "{}", self.strays)
+        write!(f, "{}{}", self.protected, self.strays)
     }
 }
 

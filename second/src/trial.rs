@@ -220,7 +220,7 @@ fn put_levels(to: &mut Vec<u8>, list: &[i16]) {
 #[cfg(test)]
 mod tests {
     use super::*;
-    use crate::{dqpsk, grid, scrambler};
+    use payload_a::tests::hit;
 
     fn ran(input: &[u8]) -> Vec<u8> {
         let mut output = Vec::new();
@@ -250,27 +250,17 @@ mod tests {
         assert_eq!(ran(&request.to_bytes()), response);
     }
 
-    /// To receive 784 bits in mode 1, of which some protected bits are hit.
-    fn receive_a(sent: &[u8], fields: &[usize]) -> Request {
-        let mut framed = payload_a::with_fields(sent);
-        fields.iter().for_each(|&place| framed[place] ^= 1);
-        let (mut i, mut q) = (vec![0; payload_a::POINTS], vec![0; payload_a::POINTS]);
-        grid::write(&dqpsk::points(&framed), &mut i, &mut q);
+    /// To receive a message and its check in mode 1, hit in these places of the 784 bits, and in these protected bits.
+    fn receive_a(information: &[u8], places: &[usize], fields: &[usize]) -> Request {
+        let (i, q) = hit(1, information, places, fields);
         Request::ReceiveA { mode: 1, i, q, area: vec![9; 60] }
-    }
-
-    /// The 784 bits of information bits and a check, hit in these places.
-    fn hit(information: &[u8], places: &[usize]) -> Vec<u8> {
-        let mut sent = payload_a::coded(1, &scrambler::scrambled(information));
-        places.iter().for_each(|&place| sent[place] ^= 1);
-        sent
     }
 
     #[test]
     fn bytes_of_a_receive_a_with_hits_by_hand() {
         // Places 0 and 300 of the first half, 1, 258 and 391 of the second; and the first and last protected bits.
-        let sent = hit(&payload_a::with_check(&[6; 58]), &[0, 300, 392 + 1, 392 + 258, 392 + 391]);
-        let request = receive_a(&sent, &[0, 839]);
+        let places = [0, 300, 392 + 1, 392 + 258, 392 + 391];
+        let request = receive_a(&payload_a::with_check(&[6; 58]), &places, &[0, 839]);
         let head = [0, /* place */ 0, 0, 0, 0, 0, 0, 0, 0];
         let mended_and_protected = [5, 0, 0, 0, 0, 0, 0, 0, 2, 0, 0, 0, 0, 0, 0, 0];
         let first = [&[0, 0, 44, 1][..], &[0; 2 * 14]].concat();
@@ -286,14 +276,19 @@ mod tests {
         let request = Request::Decode { code: 3, word: [[1; 17].as_slice(), &[0; 375]].concat(), out: vec![5; 392] };
         let response = [&[9][..], &[0; 16], &[0; 32], &[136, 1, 0, 0], &[5; 392]].concat();
         assert_eq!(ran(&request.to_bytes()), response);
-        // The first half is mended, and then the second half is hopeless, or the check wrong.
+        // The first half is mended, and then the second half is hopeless, or the check wrong; or all is right but more
+        // than 12 protected bits.
         let right = payload_a::with_check(&[6; 58]);
         let mut wrong = right.clone();
         wrong[495] ^= 1;
         let mended = [0, 100, 391];
         let hopeless: Vec<usize> = mended.into_iter().chain(392..392 + 17).collect();
-        for (sent, number, place) in [(hit(&right, &hopeless), 9, 1), (hit(&wrong, &mended), 10, 0)] {
-            let request = receive_a(&sent, &[0]);
+        let fields = payload_a::field_places();
+        for (request, number, place) in [
+            (receive_a(&right, &hopeless, &fields[..12]), 9, 1),
+            (receive_a(&wrong, &mended, &fields[..12]), 10, 0),
+            (receive_a(&right, &mended, &fields[..13]), 11, 0),
+        ] {
             let response = [&[number, place][..], &[0; 7], &[0; 16], &[0; 64], &[60, 0, 0, 0], &[9; 60]].concat();
             assert_eq!(ran(&request.to_bytes()), response);
         }

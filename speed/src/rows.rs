@@ -3,7 +3,7 @@
 
 use crate::{ours, theirs};
 use second::rng::Rng;
-use second::{bch, dqpsk, grid, payload_a, scrambler};
+use second::{bch, grid, payload_a, scrambler};
 
 /// Words, frames or bursts in each row, all of them different but for chance.
 pub const INPUTS: usize = 2048;
@@ -122,6 +122,7 @@ fn of_payload_a() -> Vec<Row> {
         row(1, "send", SEND_A, &frame),
         row(1, "receive, clean", RECEIVE_A, &|rng, mode| burst(rng, mode, 0)),
         row(1, "receive, 16 hits in each half", RECEIVE_A, &|rng, mode| burst(rng, mode, 16)),
+        row(1, "receive, noise", RECEIVE_A, &|rng, mode| points(mode, &rng.bits(840))),
         row(0, "send", SEND_A, &frame),
         row(0, "receive, clean", RECEIVE_A, &|rng, mode| burst(rng, mode, 0)),
     ]
@@ -151,7 +152,11 @@ fn burst(rng: &mut Rng, mode: u8, hits: usize) -> Input {
     for half in bits.chunks_mut(392) {
         rng.distinct(hits, half.len()).into_iter().for_each(|place| half[place] ^= 1);
     }
-    let (mut i, mut q) = (vec![0; payload_a::POINTS], vec![0; payload_a::POINTS]);
-    grid::write(&dqpsk::points(&payload_a::with_fields(&bits)), &mut i, &mut q);
+    points(mode, &payload_a::with_fields(&bits))
+}
+
+/// The points of 840 bits.
+fn points(mode: u8, bits: &[u8]) -> Input {
+    let (i, q) = payload_a::on_grid(bits);
     Input { number: mode, i, q, ..Input::default() }
 }

@@ -169,29 +169,52 @@ static void payload_a(size_t mode, size_t size)
         REFUSE(ORTKAVEQ_WRONG_LENGTH, 0, with(&frame, *wrong, SEND_A, mode, LEVELS));
 }
 
-/* Hits in protected fields are counted, a hit in a segment breaks the check. */
+/* Where the n-th of the 56 bits of the protected fields stands among the 840. */
+static size_t in_fields(size_t n) { return 420 * (n / 28) + n % 28 + (n % 28 < 10 ? 0 : n % 28 < 20 ? 196 : 392); }
+
+/* The burst in i and q, with 0 to 56 hits all over its fields: up to 12 it is answered so, with their count if it is accepted; from 13 on it is noise. */
+static void hit_fields(size_t mode, size_t size, struct told answer)
+{
+    for (size_t hits = 0; hits <= ORTKAVEQ_A_FIELDS; hits++) {
+        if (hits > 0)
+            flip_a(in_fields(9 * hits % ORTKAVEQ_A_FIELDS));
+        if (hits > ORTKAVEQ_A_MOST_DIFFERING) {
+            REFUSE(ORTKAVEQ_NOISE, 0, run(RECEIVE_A, mode, size));
+            continue;
+        }
+        EXPECT(answer.number, answer.place, answer.count, answer.number == 0 ? hits : 0, run(RECEIVE_A, mode, size));
+        if (answer.number == 0)
+            HOLD(same(&area, &frame, size));
+    }
+}
+
+/* A hit in a segment breaks the check. */
 static void uncoded_a(size_t size)
 {
     sent(SEND_A, 0, size, LEVELS);
-    EACH(bit, 0, 206, 419, 420, 839)
-        flip_a(*bit);
-    EXPECT(0, 0, 0, 5, run(RECEIVE_A, 0, size));
-    HOLD(same(&area, &frame, size));
+    hit_fields(0, size, (struct told){0, 0, 0, 0});
+    sent(SEND_A, 0, size, LEVELS);
     flip_a(in_half(1, 391));
-    REFUSE(ORTKAVEQ_WRONG_CHECK, 0, run(RECEIVE_A, 0, size));
+    hit_fields(0, size, (struct told){ORTKAVEQ_WRONG_CHECK, 0, 0, 0});
 }
 
 /* Where each half is hit: of 16 places the first one's last is 391, the second one's first is 0. */
 static size_t hit_at(size_t half, size_t hit) { return half == 0 ? 26 * hit + 1 : 23 * hit; }
 
-/* So many hits in each half are mended just there, with a protected bit hit between them. */
-static void hits_a(size_t size, size_t in_first, size_t in_second)
+/* A burst with so many hits in each half. */
+static void hit_a(size_t size, size_t in_first, size_t in_second)
 {
     sent(SEND_A, 1, size, LEVELS);
     for (size_t hit = 0; hit < in_first; hit++)
         flip_a(in_half(0, hit_at(0, hit)));
     for (size_t hit = 0; hit < in_second; hit++)
         flip_a(in_half(1, hit_at(1, hit)));
+}
+
+/* They are mended just there, with a protected bit hit between them. */
+static void hits_a(size_t size, size_t in_first, size_t in_second)
+{
+    hit_a(size, in_first, in_second);
     flip_a(415);
     EXPECT(0, 0, in_first + in_second, 1, run(RECEIVE_A, 1, size));
     HOLD(same(&area, &frame, size));
@@ -201,7 +224,22 @@ static void hits_a(size_t size, size_t in_first, size_t in_second)
     }
 }
 
-/* Up to t hits in each half are mended, one more is not; and with another codeword added to the first half the check is wrong, hits or none. */
+/* A burst to whose first half another codeword is added. */
+static void another_a(size_t size)
+{
+    sent(SEND_A, 1, size, LEVELS);
+    fill(&word, ORTKAVEQ_K3, 1);
+    word.bytes[100] = 1;
+    ACCEPT(0, with(&out, ORTKAVEQ_N3, ENCODE, 3, ORTKAVEQ_N3));
+    for (size_t n = 0; n < ORTKAVEQ_N3; n++)
+        if (out.bytes[n] == 1)
+            flip_a(in_half(0, n));
+}
+
+/*
+ * Up to t hits in each half are mended, one more is not; and with another codeword added to the first half the check is wrong, hits or none. Hits in the fields
+ * beside them are counted, or noise.
+ */
 static void coded_a(size_t size)
 {
     EACH(in_first, 0, 1, ORTKAVEQ_T3)
@@ -211,16 +249,18 @@ static void coded_a(size_t size)
         flip_a(in_half(*half, 390));
         REFUSE(ORTKAVEQ_UNCORRECTABLE, *half, run(RECEIVE_A, 1, size));
     }
-    sent(SEND_A, 1, size, LEVELS);
-    fill(&word, ORTKAVEQ_K3, 1);
-    word.bytes[100] = 1;
-    ACCEPT(0, with(&out, ORTKAVEQ_N3, ENCODE, 3, ORTKAVEQ_N3));
-    for (size_t n = 0; n < ORTKAVEQ_N3; n++)
-        if (out.bytes[n] == 1)
-            flip_a(in_half(0, n));
-    REFUSE(ORTKAVEQ_WRONG_CHECK, 0, run(RECEIVE_A, 1, size));
+    hit_a(size, 0, 0);
+    hit_fields(1, size, (struct told){0, 0, 0, 0});
+    hit_a(size, ORTKAVEQ_T3, ORTKAVEQ_T3);
+    hit_fields(1, size, (struct told){0, 0, 2 * ORTKAVEQ_T3, 0});
+    hit_a(size, ORTKAVEQ_T3, ORTKAVEQ_T3);
+    flip_a(in_half(1, 390));
+    hit_fields(1, size, (struct told){ORTKAVEQ_UNCORRECTABLE, 1, 0, 0});
+    another_a(size);
+    hit_fields(1, size, (struct told){ORTKAVEQ_WRONG_CHECK, 0, 0, 0});
+    another_a(size);
     flip_a(in_half(0, 391)), flip_a(in_half(1, 390));
-    REFUSE(ORTKAVEQ_WRONG_CHECK, 0, run(RECEIVE_A, 1, size));
+    hit_fields(1, size, (struct told){ORTKAVEQ_WRONG_CHECK, 0, 0, 0});
 }
 
 /* ---- Payload B */

@@ -29,7 +29,7 @@
 extern "C" {
 #endif
 
-/* ---- Numbers: why a call refused. Checks run in the order 1, 2, 5, 6, 3, 4, 7, 8, 9, 10, each where it applies; the first that fails gives the number. */
+/* ---- Numbers: why a call refused. Checks run in the order 1, 2, 5, 6, 3, 4, 7, 8, 11, 9, 10, each where it applies; the first that fails gives the number. */
 
 enum ortkaveq_number {
     ORTKAVEQ_ACCEPTED = 0,         /* Accepted. Place 0. */
@@ -42,7 +42,8 @@ enum ortkaveq_number {
     ORTKAVEQ_FILLED = 7,           /* An unavailable sub-carrier is not (0,0). Place: its index in I and Q, the least such one. */
     ORTKAVEQ_STRAY_POINT = 8,      /* A point that is none of its sub-carrier's constellation. Place: its index in I and Q, the first in the order sent. */
     ORTKAVEQ_UNCORRECTABLE = 9,    /* No codeword lies near enough. Place: the first such block; 0 for a single word. */
-    ORTKAVEQ_WRONG_CHECK = 10      /* Payload A: the frame check is wrong. Place 0. */
+    ORTKAVEQ_WRONG_CHECK = 10,     /* Payload A: the frame check is wrong. Place 0. */
+    ORTKAVEQ_NOISE = 11            /* Payload A: more than 12 of the 56 bits of the protected fields differ. Place 0. */
 };
 
 /* ---- Sizes */
@@ -59,9 +60,10 @@ enum {
      */
     ORTKAVEQ_PLACES = 16,
 
-    /* Payload A: bytes of a frame in mode 0, uncoded, and in mode 1, code 3; elements of I and of Q. */
+    /* Payload A: bytes of a frame in mode 0, uncoded, and in mode 1, code 3; elements of I and of Q; bits of the protected fields, and how many may differ. */
     ORTKAVEQ_A_BYTES0 = 94, ORTKAVEQ_A_BYTES1 = 58,
     ORTKAVEQ_A_LEVELS = 512,
+    ORTKAVEQ_A_FIELDS = 56, ORTKAVEQ_A_MOST_DIFFERING = 12,
 
     /* Payload B: in mode 1 (code 1) and mode 2 (code 2) a frame is one or more whole blocks of so many bytes; in mode 0, uncoded, one or more bytes. */
     ORTKAVEQ_B_BYTES1 = 59, ORTKAVEQ_B_BYTES2 = 54,
@@ -91,7 +93,7 @@ struct ortkaveq_answer {
 struct ortkaveq_answer_a {
     uint32_t number;
     uint16_t mended;
-    uint16_t fields; /* how many of the 56 bits of the protected fields differ from those that are sent */
+    uint16_t fields; /* how many of the 56 bits of the protected fields differ from those that are sent: 0 to 12 */
     uint64_t place;
 };
 
@@ -139,11 +141,12 @@ struct ortkaveq_answer ortkaveq_decode(uint8_t code, const uint8_t *word, size_t
 struct ortkaveq_answer ortkaveq_send_a(uint8_t mode, const uint8_t *frame, size_t frame_length, int16_t *i, size_t i_length, int16_t *q, size_t q_length);
 
 /*
- * Receives a frame. One that was sent by the earlier rule of the frame check is refused with 10.
+ * Receives a frame. One that was sent by the earlier rule of the frame check is refused with 10. More than 12 bits of the protected fields that differ are
+ * noise, in both modes: refused with 11 before a block or the check is looked at, so that a burst can be refused whose frame could have been mended.
  * Reads: the first 512 elements of i and of q. Writes: the first 94 (mode 0) or 58 (mode 1) bytes of area, the frame; all 16 of first and of second, the places
  * mended in the first and in the second half: each an index, 0 to 391, in the 392 bits that its OFDM symbol carries beside protected fields; in mode 0 all 0.
  * mended is the number of places of both. With mended 1 and both lists all 0 it is place 0 of one of the two halves, and the answer does not say of which.
- * Refuses with 1, 3, 7, 8, 9, 10. A refusal writes nothing to area, and 0 to all of first and second; bytes of area beyond the frame keep what they held.
+ * Refuses with 1, 3, 7, 8, 11, 9, 10. A refusal writes nothing to area, and 0 to all of first and second; bytes of area beyond the frame keep what they held.
  */
 struct ortkaveq_answer_a ortkaveq_receive_a(uint8_t mode, const int16_t *i, size_t i_length, const int16_t *q, size_t q_length, uint8_t *area,
                                             size_t area_length, uint16_t *first, uint16_t *second);

@@ -105,7 +105,7 @@ static void hold_symbols(struct told job, uint8_t mode, size_t size, const struc
 /* What a response has for each job: number, place, its counts, its lists of places without their length, and the lent lists. */
 static void put_response(uint8_t job, struct told answer, const struct list *places, const struct list *lent)
 {
-    hold(answer.number <= ORTKAVEQ_WRONG_CHECK, "there is no such number");
+    hold(answer.number <= ORTKAVEQ_NOISE, "there is no such number");
     hold(jobs[job].counts > 0 || answer.counts[0] == 0, "a job that mends nothing has mended bits");
     put(&(uint8_t){(uint8_t)answer.number}, sizeof(uint8_t));
     put(&answer.place, sizeof answer.place);

@@ -8,7 +8,7 @@ use lib.Dec.{eqb}
 use Rattle.answers.specs.Answers.{accepted, refused, because, ofWritten, ofDecoded, ofReceivedA, ofReceivedB, ToldWord, ofWord, ToldBurst, ofBurst}
 use Rattle.answers.specs.Checks.{Checked}
 use Rattle.answers.specs.declared.Refusal.{Refusal}
-use Rattle.answers.specs.declared.Refusal.the-variants.{Unknown, WrongLength, NoRoom, NotABit, BadScheme, TooManySymbols, Occupied, StrayPoint, Uncorrectable, WrongCheck}
+use Rattle.answers.specs.declared.Refusal.the-variants.{Unknown, WrongLength, NoRoom, NotABit, BadScheme, TooManySymbols, Occupied, StrayPoint, Uncorrectable, WrongCheck, Noise}
 use Rattle.answers.specs.declared.Told.{Told}
 use Rattle.answers.specs.declared.Written.{Written}
 use Rattle.answers.specs.declared.Written.the-variants as written
@@ -26,7 +26,7 @@ pub refusalOf : Told → Refusal
 refusalOf t =
     cond (eqb (t .number) 1) Unknown (cond (eqb (t .number) 2) WrongLength (cond (eqb (t .number) 3) NoRoom (cond (eqb (t .number) 4) (NotABit (t .place))
     (cond (eqb (t .number) 5) (BadScheme (t .place)) (cond (eqb (t .number) 6) TooManySymbols (cond (eqb (t .number) 7) (Occupied (t .place))
-    (cond (eqb (t .number) 8) (StrayPoint (t .place)) (cond (eqb (t .number) 9) (Uncorrectable (t .place)) WrongCheck))))))))
+    (cond (eqb (t .number) 8) (StrayPoint (t .place)) (cond (eqb (t .number) 9) (Uncorrectable (t .place)) (cond (eqb (t .number) 10) WrongCheck Noise)))))))))
 
 pub refusal-of : (r : Refusal) → refusalOf (because r) ≡ r
 unfolding refusalOf
@@ -40,6 +40,7 @@ refusal-of (Occupied i) = refl
 refusal-of (StrayPoint i) = refl
 refusal-of (Uncorrectable i) = refl
 refusal-of WrongCheck = refl
+refusal-of Noise = refl
 
 -- only what is accepted has number 0
 pub numbered : (r : Refusal) → eqb (because r .number) 0 ≡ false
@@ -53,6 +54,7 @@ numbered (Occupied i) = refl
 numbered (StrayPoint i) = refl
 numbered (Uncorrectable i) = refl
 numbered WrongCheck = refl
+numbered Noise = refl
 
 numbered-not : (r : Refusal) → because r .number ≡ 0 → ⊥
 numbered-not r e =
@@ -75,6 +77,7 @@ because-is (Occupied i) = refl
 because-is (StrayPoint i) = refl
 because-is (Uncorrectable i) = refl
 because-is WrongCheck = refl
+because-is Noise = refl
 
 -- ---- each kind of answer, out of what it tells
 

@@ -5,7 +5,7 @@ use mathlib.Core.List.{List, [], _++_}
 use Prim.Native.Nat.{ℕ, _-_}
 use lib.ListN.{length, replicate}
 use Rattle.answers.specs.declared.Refusal.{Refusal}
-use Rattle.answers.specs.declared.Refusal.the-variants.{Unknown, WrongLength, NoRoom, NotABit, BadScheme, TooManySymbols, Occupied, StrayPoint, Uncorrectable, WrongCheck}
+use Rattle.answers.specs.declared.Refusal.the-variants.{Unknown, WrongLength, NoRoom, NotABit, BadScheme, TooManySymbols, Occupied, StrayPoint, Uncorrectable, WrongCheck, Noise}
 use Rattle.answers.specs.declared.Told.{Told}
 use Rattle.answers.specs.declared.Written.{Written}
 use Rattle.answers.specs.declared.Written.the-variants as written
@@ -37,6 +37,7 @@ because (Occupied i) = refused 7 i
 because (StrayPoint i) = refused 8 i
 because (Uncorrectable i) = refused 9 i
 because WrongCheck = refused 10 0
+because Noise = refused 11 0
 
 -- what encode, send A and send B tell
 abbrev pub ofWritten : Written → Told

@@ -3,7 +3,7 @@
 ghost use mathlib.Core.Path.{_≡_};
 ghost use Rattle.answers.specs.Answers.{accepted, refused, because, ofWritten, ofDecoded, ofReceivedA, ofReceivedB, noWord, noBurst};
 
-// Why a word, a frame or a grid is refused, in the order of document 01's numbers.
+// Why a word, a frame or a grid is refused, in the order of the numbers: document 01's, and document 02's behind them.
 pub enum Refusal {
     Unknown,
     WrongLength,
@@ -15,6 +15,7 @@ pub enum Refusal {
     StrayPoint(usize),
     Uncorrectable(usize),
     WrongCheck,
+    Noise,
 }
 
 // What encode, send A and send B answer.
@@ -120,6 +121,7 @@ pub fn of_refusal(why: Refusal) -> Told
         Refusal::StrayPoint(index) => refused(8, index),
         Refusal::Uncorrectable(block) => refused(9, block),
         Refusal::WrongCheck => refused(10, 0),
+        Refusal::Noise => refused(11, 0),
     }
 }
 

@@ -1,16 +1,16 @@
 -- Two rules of the frame check, ours and the earlier one: no 784 bits fit a frame by both, so a frame sent by the earlier rule is refused with 10, clean or
--- with as many hits as are mended.
+-- with as many hits as are mended, or as noise with 11.
 -- Assumes nothing.
 use mathlib.Core.Path.{_≡_, refl, sym, ap, _∙_}
 use mathlib.Core.Logic.{_≢_, inr}
-use mathlib.Core.Bool.{cond}
+use mathlib.Core.Bool.{Bool, true, false, cond}
 use mathlib.Core.List.{List, _++_}
-use Prim.Native.Nat.{ℕ, zero, suc, _+_, _*_, _%_, _^_, _<_}
+use Prim.Native.Nat.{ℕ, zero, suc, _+_, _*_, _%_, _^_, _≤_, _<_}
 use native.Mathlib.Nat.{ne-of-gt}
 use native.Mathlib.Omega.{arith}
-use borrow.Author.Tests.{ne-eqb}
+use borrow.Author.Tests.{ne-eqb, ltb-true, ltb-false}
 use lib.Bits.{bitXor, xor-self, xor-comm, xor-mod}
-use lib.Dec.{eqb, lit<}
+use lib.Dec.{eqb, ltb, lit<}
 use lib.IntN.{ℤ}
 use lib.ListN.{length, replicate, take, drop}
 use lib.Seq.{take-at, drop-at}
@@ -33,7 +33,7 @@ use Rattle.payload.specs.Wire.{Wire, blockAt, Fits, Mendable}
 use Rattle.payload.proofs.Scrambling.{scrambled-inj}
 use Rattle.payload.proofs.Wires.{parts-same, block-long, fits-mendable}
 use Rattle.payload_a.specs.Check.{checkOf, withCheck}
-use Rattle.payload_a.specs.Segments.{rowBits, carried}
+use Rattle.payload_a.specs.Segments.{rowBits, carried, fieldsDiffering, mostDiffering}
 use Rattle.payload_a.specs.CodedA.{bytesA, information, blocksA, codedA}
 use Rattle.payload_a.specs.PromiseA.{wireA, Receives, ReceivingA}
 use Rattle.payload_a.proofs.Sums.{earlierCheck, check-earlier}
@@ -42,9 +42,9 @@ use Rattle.payload_a.proofs.Coding.{bits-behind, length-behind, bits-in
 use Rattle.payload_a.proofs.Coding.{length-blocks, blocks-codeword, blocks-inj, block-codeword}
 use Rattle.payload_a.proofs.Framing.{length-carried}
 use Rattle.payload_a.proofs.Turnings.{length-read}
-use Rattle.payload_a.proofs.VerdictsA.{receivable, legal}
+use Rattle.payload_a.proofs.VerdictsA.{no-noise}
 use Rattle.payload_a.proofs.OnceA.{receive-a-once}
-use Rattle.payload_a.proofs.TripsA.{Legal}
+use Rattle.payload_a.proofs.TripsA.{Legal, checks-left, noise-refused}
 
 -- ---- what the earlier rule sends
 
@@ -159,19 +159,28 @@ earlier-mendable w g = fits-mendable (earlierWire 1) code3 refl refl (λ f l b. 
 
 module _ (mode : ℕ) (is qs : List ℤ) (area : List ℕ) (call : Legal mode is qs area) (answer : ReceivedBurst) (after : List ℕ)
     (receiving : ReceivingA mode is qs area answer after) (g : List ℕ) (fits : Fits (earlierWire mode) (carried (dibits (received 2 is qs))) g) where
-  -- where a frame of the earlier rule fits, clean or with as many hits as are mended, the call is refused with 10, and the area is as it was
-  pub earlier-refused : (ofBurst answer ≡ refusedBurst 10 0) × (after ≡ area)
-  earlier-refused =
-      let word = carried (dibits (received 2 is qs)) in
+  abbrev RefusedWith : ℕ → Type 0
+  RefusedWith number = (ofBurst answer ≡ refusedBurst number 0) × (after ≡ area)
+
+  wrong-check : fieldsDiffering (dibits (received 2 is qs)) ≤ mostDiffering → RefusedWith 10
+  wrong-check few =
+      let bits = dibits (received 2 is qs) in
       let made = noBurst WrongCheck in
-      let P : Checked Unit → Type 0 = λ k. Receives k mode (dibits (received 2 is qs)) area made area in
+      let P : Checked Unit → Type 0 = λ k. Receives k mode bits area made area in
       let there : ReceivingA mode is qs area made area
-      = receivable P mode is qs area (call .known) (call .points) (call .room) (legal P is qs (omega (arith, call .empty)) (omega (arith, call .legal))
-      (inr (inr (record {
-        each = λ one b l. earlier-mendable word g (rw one at fits) b l;
-        none = λ f up. never-both mode word (length-carried (dibits (received 2 is qs)) (length-read is qs)) f g up fits;
+      = checks-left call P (no-noise P bits few (inr (inr (record {
+        each = λ one b l. earlier-mendable (carried bits) g (rw one at fits) b l;
+        none = λ f up. never-both mode (carried bits) (length-carried bits (length-read is qs)) f g up fits;
         tells = refl;
         left = refl;
       })))) in
       let same = receive-a-once area answer made after area mode is qs receiving there in
       (ap ofBurst (same .0), same .1)
+
+  -- where a frame of the earlier rule fits, clean or with as many hits as are mended, the call is refused with 10, noise with 11, and the area is as it was
+  pub earlier-refused : RefusedWith (cond (ltb mostDiffering (fieldsDiffering (dibits (received 2 is qs)))) 11 10)
+  earlier-refused = by (ltb mostDiffering (fieldsDiffering (dibits (received 2 is qs)))) refl
+    where
+      by : (b : Bool) → ltb mostDiffering (fieldsDiffering (dibits (received 2 is qs))) ≡ b → RefusedWith (cond b 11 10)
+      by true e = noise-refused call answer after receiving (ltb-true mostDiffering _ e)
+      by false e = wrong-check (ltb-false mostDiffering _ e)

@@ -1,5 +1,5 @@
--- Payload A there and back: a frame goes up exactly when it fits; where points are accepted, sending the frame again gives the bits received but
--- for those counted; and clean points give the frame that was sent (demands 2 and 3).
+-- Payload A there and back: a frame goes up exactly when it fits and the burst is no noise; where points are accepted, sending the frame again gives the bits
+-- received but for those counted; and clean points give the frame that was sent (demands 2 and 3; document 02, item 3).
 -- Assumes nothing.
 use mathlib.Core.Path.{_≡_, refl, sym, ap, ap₂, _∙_}
 use mathlib.Core.Logic.{inl, inr}
@@ -7,12 +7,12 @@ use mathlib.Core.Bool.{true, _&&_}
 use mathlib.Core.List.{List, [], _++_}
 use Prim.Native.Nat.{ℕ, _+_, _*_, _≤_, _<_}
 use native.Mathlib.Omega.{arith}
-use borrow.Author.Tests.{leb-true, eqb-true}
+use borrow.Author.Tests.{leb-true, eqb-true, ltb-false}
 use lib.Dec.{eqb, leb, ltb}
 use lib.IntN.{ℤ}
 use lib.ListN.{length, take, drop, length-append, length-drop, take-append-drop}
 use lib.Seq.{take-at, take-all, length-take-le}
-use Rattle.answers.specs.Answers.{accepted, ofWritten, ofReceivedA, listed, ToldBurst, ofBurst}
+use Rattle.answers.specs.Answers.{accepted, ofWritten, ofReceivedA, listed, ToldBurst, ofBurst, refusedBurst}
 use Rattle.answers.specs.Checks.{Checked, fails, passes}
 use Rattle.answers.specs.declared.Told.{Told}
 use Rattle.answers.specs.declared.Written.{Written}
@@ -36,14 +36,14 @@ use Rattle.symbols.proofs.Rooms.{room-enough}
 use Rattle.bch.proofs.Listings.{Names, names}
 use Rattle.payload.specs.Wire.{blockAt, Fits}
 use Rattle.payload.proofs.Wires.{fits-clean}
-use Rattle.payload_a.specs.Segments.{rowBits, framed, carried, protected, fields}
+use Rattle.payload_a.specs.Segments.{rowBits, framed, carried, protected, fields, fieldsDiffering, mostDiffering}
 use Rattle.payload_a.specs.CodedA.{bytesA, codedA, pointsA, sentI, sentQ}
 use Rattle.payload_a.specs.PromiseA.{elementsA, pointCountA, sendChecked, Sends, SendingA}
-use Rattle.payload_a.specs.PromiseA.{receiveChecked, wireA, placesIn, Goes, Answered, Receives, ReceivingA}
+use Rattle.payload_a.specs.PromiseA.{noiseChecked, receiveChecked, wireA, placesIn, Goes, Answered, Receives, ReceivingA}
 use Rattle.payload_a.proofs.Coding.{bits-codedA, length-codedA}
 use Rattle.payload_a.proofs.Framing.{bits-framed, length-framed, length-carried, bits-carried, carried-framed, protected-framed}
 use Rattle.payload_a.proofs.Turnings.{none-stray, bits-back, length-read}
-use Rattle.payload_a.proofs.VerdictsA.{receivable, legal}
+use Rattle.payload_a.proofs.VerdictsA.{receivable, legal, noise, no-noise}
 use Rattle.payload_a.proofs.OnceA.{receive-a-once}
 
 -- ---- every check
@@ -58,12 +58,15 @@ module _ (P : Checked Unit → Type 0) (failed : (number place : ℕ) → 0 < nu
       (λ _. failed 2 0 (omega arith)))
       (λ _. failed 1 0 (omega arith))
 
-  by-receive : (mode : ℕ) (is qs : List ℤ) (area : List ℕ) → (mode ≤ 1 → P (passes tt)) → P (receiveChecked mode is qs area)
+  by-receive : (mode : ℕ) (is qs : List ℤ) (area : List ℕ) → (mode ≤ 1 → fieldsDiffering (dibits (received 2 is qs)) ≤ mostDiffering → P (passes tt))
+      → P (receiveChecked mode is qs area)
   by-receive mode is qs area on =
       by-test P (leb mode 1)
       (λ k. by-test P (room elementsA is qs && leb (bytesA mode) (length area))
       (λ _. by-test P (ltb (firstOccupied is qs 0 elementsA) elementsA) (λ _. failed 7 _ (omega arith))
-      (λ _. by-test P (ltb (strayAt (received 2 is qs)) pointCountA) (λ _. failed 8 _ (omega arith)) (λ _. on (leb-true mode 1 k))))
+      (λ _. by-test P (ltb (strayAt (received 2 is qs)) pointCountA) (λ _. failed 8 _ (omega arith))
+      (λ _. by-test P (ltb mostDiffering (fieldsDiffering (dibits (received 2 is qs)))) (λ _. failed 11 0 (omega arith))
+      (λ e. on (leb-true mode 1 k) (ltb-false mostDiffering _ e)))))
       (λ _. failed 3 0 (omega arith)))
       (λ _. failed 1 0 (omega arith))
 
@@ -144,35 +147,36 @@ module _ (mode : ℕ) (is qs : List ℤ) (area : List ℕ) (answer : ReceivedBur
   in-front frame long left = ap (take (bytesA mode)) left ∙ take-at frame (drop (bytesA mode) area) (bytesA mode) long
 
   abbrev Up : Type 0
-  Up = (mode ≤ 1) × Goes mode (carried bits) (differ fields (protected bits)) area answer after
+  Up = (mode ≤ 1) × (fieldsDiffering bits ≤ mostDiffering) × Goes mode (carried bits) (fieldsDiffering bits) area answer after
 
   goes : Up
   goes =
       by-receive (λ k. Receives k mode bits area answer after → Up) (λ number place l p. absurd (not-refused tells (burst-told answer (p .0)) l))
       mode is qs area of-answer receiving
     where
-      of-answer : mode ≤ 1 → Answered mode (carried bits) (differ fields (protected bits)) area answer after → Up
-      of-answer known (inl p) = (known, p)
-      of-answer known (inr (inl p)) = absurd (not-refused tells (burst-told answer (p .tells)) (omega arith))
-      of-answer known (inr (inr p)) = absurd (not-refused tells (burst-told answer (p .tells)) (omega arith))
+      of-answer : mode ≤ 1 → fieldsDiffering bits ≤ mostDiffering → Answered mode (carried bits) (fieldsDiffering bits) area answer after → Up
+      of-answer known few (inl p) = (known, few, p)
+      of-answer known few (inr (inl p)) = absurd (not-refused tells (burst-told answer (p .tells)) (omega arith))
+      of-answer known few (inr (inr p)) = absurd (not-refused tells (burst-told answer (p .tells)) (omega arith))
 
-  up-is : take (bytesA mode) after ≡ goes .1 .frame
-  up-is = in-front (goes .1 .frame) (goes .1 .fits .long) (goes .1 .left)
+  up-is : take (bytesA mode) after ≡ goes .2 .frame
+  up-is = in-front (goes .2 .frame) (goes .2 .fits .long) (goes .2 .left)
 
   -- the frame that went up fits
   up-fits : (frame : List ℕ) → length frame ≡ bytesA mode → after ≡ frame ++ drop (bytesA mode) area → Fits (wireA mode) (carried bits) frame
-  up-fits frame long left = rw (sym up-is ∙ in-front frame long left) at (goes .1 .fits)
+  up-fits frame long left = rw (sym up-is ∙ in-front frame long left) at (goes .2 .fits)
 
-  -- sending the frame that went up again gives the bits received, but for the bits counted as mended and the protected bits counted
+  -- sending the frame that went up again gives the bits received, but for the bits counted as mended and the protected bits counted, at most 12
   pub sent-again :
       (differ (carried (again mode (take (bytesA mode) after))) (carried bits) ≡ mended)
-      × (differ (protected (again mode (take (bytesA mode) after))) (protected bits) ≡ differing)
+      × (differ (protected (again mode (take (bytesA mode) after))) (protected bits) ≡ differing) × (differing ≤ mostDiffering)
   sent-again =
-      let counts = sym (burst-told answer (goes .1 .tells)) ∙ tells in
-      let f = goes .1 .frame in
-      let long = goes .1 .fits .long in
+      let counts = sym (burst-told answer (goes .2 .tells)) ∙ tells in
+      let fieldsCounted = ap (λ (told : Told). told .protected) counts in
+      let f = goes .2 .frame in
+      let long = goes .2 .fits .long in
       rw (up-is, carried-again mode f (goes .0) long, protected-again mode f (goes .0) long)
-      (ap (λ (told : Told). told .mended) counts, ap (λ (told : Told). told .protected) counts)
+      (ap (λ (told : Told). told .mended) counts, fieldsCounted, rw fieldsCounted at (goes .1))
 
   -- in how many places a half differs from the one received
   abbrev hitsIn : ℕ → List ℕ → ℕ
@@ -189,23 +193,23 @@ module _ (mode : ℕ) (is qs : List ℤ) (area : List ℕ) (answer : ReceivedBur
   -- of both halves together as many as are counted
   pub sent-places : Located 0 (answer .first) resent × Located 1 (answer .second) resent × (hitsIn 0 resent + hitsIn 1 resent ≡ mended)
   sent-places =
-      let f = goes .1 .frame in
-      let long = goes .1 .fits .long in
-      let counts = sym (burst-told answer (goes .1 .tells)) ∙ tells in
+      let f = goes .2 .frame in
+      let long = goes .2 .fits .long in
+      let counts = sym (burst-told answer (goes .2 .tells)) ∙ tells in
       rw (up-is, carried-again mode f (goes .0) long) (
-        half 0 (omega arith) (ap (λ (t : ToldBurst). t .first) (goes .1 .tells)),
-        half 1 (omega arith) (ap (λ (t : ToldBurst). t .second) (goes .1 .tells)),
+        half 0 (omega arith) (ap (λ (t : ToldBurst). t .first) (goes .2 .tells)),
+        half 1 (omega arith) (ap (λ (t : ToldBurst). t .second) (goes .2 .tells)),
         differ-halves (codedA mode f) (carried bits) (length-codedA mode f (goes .0) long) (length-carried bits (length-read is qs))
             ∙ ap (λ (told : Told). told .mended) counts,
       )
     where
-      half : (b : ℕ) → b < 2 → {list : List ℕ} → list ≡ listed (placesIn b mode (goes .1 .frame) (carried bits))
-          → Located b list (codedA mode (goes .1 .frame))
+      half : (b : ℕ) → b < 2 → {list : List ℕ} → list ≡ listed (placesIn b mode (goes .2 .frame) (carried bits))
+          → Located b list (codedA mode (goes .2 .frame))
       half b l =
-          let f = goes .1 .frame in
+          let f = goes .2 .frame in
           names (blockAt rowBits b (codedA mode f)) (blockAt rowBits b (carried bits))
-          (half-bits b (codedA mode f) (bits-codedA mode f (goes .0) (goes .1 .fits .long))) (half-bits b (carried bits) (bits-carried bits (bits-read is qs)))
-          (half-long b l (codedA mode f) (length-codedA mode f (goes .0) (goes .1 .fits .long))
+          (half-bits b (codedA mode f) (bits-codedA mode f (goes .0) (goes .2 .fits .long))) (half-bits b (carried bits) (bits-carried bits (bits-read is qs)))
+          (half-long b l (codedA mode f) (length-codedA mode f (goes .0) (goes .2 .fits .long))
           ∙ sym (half-long b l (carried bits) (length-carried bits (length-read is qs))))
 
 -- an uncoded answer lists no place, accepted or refused
@@ -215,7 +219,7 @@ module _ (is qs : List ℤ) (area : List ℕ) (answer : ReceivedBurst) (after : 
 
   pub uncoded-places : ReceivingA 0 is qs area answer after → NoPlace
   uncoded-places =
-      by-receive (λ k. Receives k 0 (dibits (received 2 is qs)) area answer after → NoPlace) (λ number place l p. lists (p .0)) 0 is qs area (λ known. answered)
+      by-receive (λ k. Receives k 0 (dibits (received 2 is qs)) area answer after → NoPlace) (λ number place l p. lists (p .0)) 0 is qs area (λ known few. answered)
     where
       lists : {t : ToldBurst} → ofBurst answer ≡ t → (answer .first ≡ t .first) × (answer .second ≡ t .second)
       lists e = (ap (λ (t : ToldBurst). t .first) e, ap (λ (t : ToldBurst). t .second) e)
@@ -225,7 +229,7 @@ module _ (is qs : List ℤ) (area : List ℕ) (answer : ReceivedBurst) (after : 
           let same = differ-zero (blockAt rowBits half (codedA 0 frame)) (blockAt rowBits half word) (omega (arith, fits .near half l)) in
           ap (λ (v : List ℕ). places v (blockAt rowBits half word)) same ∙ places-self (blockAt rowBits half word)
 
-      answered : Answered 0 (carried (dibits (received 2 is qs))) (differ fields (protected (dibits (received 2 is qs)))) area answer after → NoPlace
+      answered : Answered 0 (carried (dibits (received 2 is qs))) (fieldsDiffering (dibits (received 2 is qs))) area answer after → NoPlace
       answered (inl p) =
           let e = lists (p .tells) in
           (e .0 ∙ ap listed (none (p .frame) _ (p .fits) 0 (omega arith)), e .1 ∙ ap listed (none (p .frame) _ (p .fits) 1 (omega arith)))
@@ -246,6 +250,20 @@ pub record Legal (mode : ℕ) (is qs : List ℤ) (area : List ℕ) : Type 0 wher
   pub empty : firstOccupied is qs 0 elementsA ≡ elementsA
   pub legal : strayAt (received 2 is qs) ≡ pointCountA
 
+module _ {mode : ℕ} {is qs : List ℤ} {area : List ℕ} (call : Legal mode is qs area) where
+  -- all its checks pass but the one for noise, which is left
+  pub checks-left : (P : Checked Unit → Type 0) → P (noiseChecked (dibits (received 2 is qs))) → P (receiveChecked mode is qs area)
+  checks-left P p =
+      receivable P mode is qs area (call .known) (call .points) (call .room) (legal P is qs (omega (arith, call .empty)) (omega (arith, call .legal)) p)
+
+  -- noise is refused, whatever its blocks hold and whatever its check is, and the area is as it was
+  pub noise-refused : (answer : ReceivedBurst) (after : List ℕ) → ReceivingA mode is qs area answer after
+      → mostDiffering < fieldsDiffering (dibits (received 2 is qs)) → (ofBurst answer ≡ refusedBurst 11 0) × (after ≡ area)
+  noise-refused answer after receiving l =
+      let bits = dibits (received 2 is qs) in
+      let P : Checked Unit → Type 0 = λ k. Receives k mode bits area answer after → (ofBurst answer ≡ refusedBurst 11 0) × (after ≡ area) in
+      checks-left P (noise P bits l (λ p. p)) receiving
+
 -- a frame goes up: the call is accepted, with so many bits mended and so many protected bits that differ, and the frame stands at the front of the area
 abbrev pub GoesUp : ℕ → List ℕ → ReceivedBurst → List ℕ → List ℕ → ℕ → ℕ → Type 0
 GoesUp mode area answer after frame mended differing = (ofReceivedA (answer .answer) ≡ accepted mended differing) × (after ≡ frame ++ drop (bytesA mode) area)
@@ -259,26 +277,32 @@ module _ (mode : ℕ) (is qs : List ℤ) (area : List ℕ) (call : Legal mode is
   abbrev Near : Type 0
   Near = (block : ℕ) → block < 2 → differ (blockAt rowBits block (codedA mode frame)) (blockAt rowBits block word) ≤ wireA mode .mends
 
+  -- and no more protected bits differ than may: the burst is no noise
+  abbrev NoNoise : Type 0
+  NoNoise = fieldsDiffering (dibits (received 2 is qs)) ≤ mostDiffering
+
   -- it is answered so, with the places of each half
-  pub answered-near : Near
-      → (answer ≡ burstOf (differ (codedA mode frame) word) (differ fields (protected (dibits (received 2 is qs))))
-      (placesIn 0 mode frame word) (placesIn 1 mode frame word))
+  pub answered-near : Near → NoNoise
+      → (answer ≡ burstOf (differ (codedA mode frame) word) (fieldsDiffering (dibits (received 2 is qs))) (placesIn 0 mode frame word) (placesIn 1 mode frame word))
       × (after ≡ frame ++ drop (bytesA mode) area)
-  answered-near near =
-      let made = burstOf (differ (codedA mode frame) word) (differ fields (protected (dibits (received 2 is qs))))
-      (placesIn 0 mode frame word) (placesIn 1 mode frame word) in
+  answered-near near few =
+      let bits = dibits (received 2 is qs) in
+      let made = burstOf (differ (codedA mode frame) word) (fieldsDiffering bits) (placesIn 0 mode frame word) (placesIn 1 mode frame word) in
       let left = frame ++ drop (bytesA mode) area in
-      let P : Checked Unit → Type 0 = λ k. Receives k mode (dibits (received 2 is qs)) area made left in
+      let P : Checked Unit → Type 0 = λ k. Receives k mode bits area made left in
       let there : ReceivingA mode is qs area made left
-      = receivable P mode is qs area (call .known) (call .points) (call .room) (legal P is qs (omega (arith, call .empty)) (omega (arith, call .legal))
+      = checks-left call P (no-noise P bits few
       (inl (record { frame = frame; fits = record { long = long; bytes = bytes; near = near }; tells = refl; left = refl }))) in
       receive-a-once area answer made after left mode is qs receiving there
 
-  pub up-when-near : Near → GoesUp mode area answer after frame (differ (codedA mode frame) word) (differ fields (protected (dibits (received 2 is qs))))
-  up-when-near near = let same = answered-near near in (ap (λ (r : ReceivedBurst). ofReceivedA (r .answer)) (same .0), same .1)
+  pub up-when-near : Near → NoNoise → GoesUp mode area answer after frame (differ (codedA mode frame) word) (fieldsDiffering (dibits (received 2 is qs)))
+  up-when-near near few = let same = answered-near near few in (ap (λ (r : ReceivedBurst). ofReceivedA (r .answer)) (same .0), same .1)
 
-  pub near-when-up : (mended differing : ℕ) → GoesUp mode area answer after frame mended differing → Near
-  near-when-up mended differing up = up-fits mode is qs area answer after receiving mended differing (up .0) frame long (up .1) .near
+  pub near-when-up : (mended differing : ℕ) → GoesUp mode area answer after frame mended differing → Near × NoNoise
+  near-when-up mended differing up = (
+    up-fits mode is qs area answer after receiving mended differing (up .0) frame long (up .1) .near,
+    goes mode is qs area answer after receiving mended differing (up .0) .1,
+  )
 
 -- ---- clean points
 
@@ -307,7 +331,8 @@ module _ (mode : ℕ) (frame : List ℕ) (known : mode ≤ 1) (long : length fra
   came-back bytes answer after receiving =
       let word : carried (dibits points) ≡ codedA mode frame = rw same-points (carried-again mode frame known long) in
       let field : protected (dibits points) ≡ fields = rw same-points (protected-again mode frame known long) in
-      let up = answered-near mode _ _ area clean-call answer after receiving frame bytes long (rw word (fits-clean (wireA mode) frame long bytes .near)) in
+      let up = answered-near mode _ _ area clean-call answer after receiving frame bytes long (rw word (fits-clean (wireA mode) frame long bytes .near))
+      (rw (field, differ-self fields) (omega arith)) in
       (simp (word, field, differ-self, places-self) at (up .0), up .1)
 
 module _ (mode : ℕ) (frame : List ℕ) (is qs : List ℤ) (sent : Written) (is' qs' : List ℤ) (sending : SendingA mode frame is qs sent is' qs')

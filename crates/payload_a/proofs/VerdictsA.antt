@@ -1,4 +1,5 @@
--- The checks 1, 2, 3, 7 and 8 of Payload A, one after the other: what a test of the code says of `sendChecked`, `receiveChecked` and `pointsChecked`.
+-- The checks 1, 2, 3, 7, 8 and 11 of Payload A, one after the other: what a test of the code says of `sendChecked`, `receiveChecked`, `pointsChecked` and
+-- `noiseChecked`.
 -- Assumes nothing.
 use mathlib.Core.Path.{_≡_}
 use mathlib.Core.Logic.{_≢_}
@@ -8,11 +9,12 @@ use Prim.Native.Nat.{ℕ, _≤_, _<_}
 use borrow.Author.Tests.{le-leb, lt-leb, lt-ltb, le-ltb, eq-eqb, ne-eqb}
 use lib.IntN.{ℤ}
 use lib.ListN.{length}
-use Rattle.points.specs.Dqpsk.{strayAt}
+use Rattle.points.specs.Dqpsk.{dibits, strayAt}
 use Rattle.symbols.specs.Grids.{received, indexOf, firstOccupied, room}
 use Rattle.answers.specs.Checks.{Checked, fails, passes}
+use Rattle.payload_a.specs.Segments.{fieldsDiffering, mostDiffering}
 use Rattle.payload_a.specs.CodedA.{bytesA}
-use Rattle.payload_a.specs.PromiseA.{sendChecked, pointsChecked, receiveChecked}
+use Rattle.payload_a.specs.PromiseA.{sendChecked, noiseChecked, pointsChecked, receiveChecked}
 
 -- ---- send
 
@@ -52,5 +54,14 @@ module _ (P : Checked Unit → Type 0) (is qs : List ℤ) where
     pub some-stray : strayAt (received 2 is qs) < 420 → P (fails 8 (indexOf (strayAt (received 2 is qs)))) → P (pointsChecked is qs)
     some-stray l p = rw (le-ltb (firstOccupied is qs 0 512) 512 empty, lt-ltb (strayAt (received 2 is qs)) 420 l) p
 
-    pub legal : 420 ≤ strayAt (received 2 is qs) → P (passes tt) → P (pointsChecked is qs)
+    pub legal : 420 ≤ strayAt (received 2 is qs) → P (noiseChecked (dibits (received 2 is qs))) → P (pointsChecked is qs)
     legal l p = rw (le-ltb (firstOccupied is qs 0 512) 512 empty, le-ltb (strayAt (received 2 is qs)) 420 l) p
+
+-- ---- noise
+
+module _ (P : Checked Unit → Type 0) (bits : List ℕ) where
+  pub noise : mostDiffering < fieldsDiffering bits → P (fails 11 0) → P (noiseChecked bits)
+  noise l p = rw (lt-ltb mostDiffering (fieldsDiffering bits) l) p
+
+  pub no-noise : fieldsDiffering bits ≤ mostDiffering → P (passes tt) → P (noiseChecked bits)
+  no-noise l p = rw (le-ltb mostDiffering (fieldsDiffering bits) l) p

@@ -20,7 +20,7 @@ use Rattle.points.specs.Dqpsk.{dibits, strayAt}
 use Rattle.symbols.specs.Grid.{subCarriers, symbolPoints}
 use Rattle.symbols.specs.Grids.{received, indexOf, firstOccupied, room}
 use Rattle.payload.specs.Wire.{Wire, blockAt, Fits, Mendable, FirstHopeless}
-use Rattle.payload_a.specs.Segments.{rowBits, carried, protected, fields}
+use Rattle.payload_a.specs.Segments.{rowBits, carried, fieldsDiffering, mostDiffering}
 use Rattle.payload_a.specs.CodedA.{bytesA, codedA, sentI, sentQ}
 
 -- the elements of I and of Q that two OFDM symbols take, and the points that they hold
@@ -47,11 +47,16 @@ SendingA mode frame is qs = Sends (sendChecked mode frame is qs) mode frame is q
 
 -- ---- receive
 
--- checks 7 and 8: 7 over both OFDM symbols before 8 begins
+-- check 11, of the bits received: more protected bits differ than may, and that is noise
+abbrev pub noiseChecked : List ℕ → Checked Unit
+noiseChecked bits = cond (ltb mostDiffering (fieldsDiffering bits)) (fails 11 0) (passes tt)
+
+-- checks 7 and 8 before it: 7 over both OFDM symbols before 8 begins
 abbrev pub pointsChecked : List ℤ → List ℤ → Checked Unit
 pointsChecked is qs =
     cond (ltb (firstOccupied is qs 0 elementsA) elementsA) (fails 7 (firstOccupied is qs 0 elementsA))
-    (cond (ltb (strayAt (received 2 is qs)) pointCountA) (fails 8 (indexOf (strayAt (received 2 is qs)))) (passes tt))
+    (cond (ltb (strayAt (received 2 is qs)) pointCountA) (fails 8 (indexOf (strayAt (received 2 is qs))))
+    (noiseChecked (dibits (received 2 is qs))))
 
 -- checks 1 and 3 before them
 abbrev pub receiveChecked : ℕ → List ℤ → List ℤ → List ℕ → Checked Unit
@@ -96,7 +101,7 @@ Answered mode bits differing area answer area' =
 
 abbrev pub Receives : Checked Unit → ℕ → List ℕ → List ℕ → ReceivedBurst → List ℕ → Type 0
 Receives (fails number place) mode bits area answer area' = (ofBurst answer ≡ refusedBurst number place) × (area' ≡ area)
-Receives (passes _) mode bits area answer area' = Answered mode (carried bits) (differ fields (protected bits)) area answer area'
+Receives (passes _) mode bits area answer area' = Answered mode (carried bits) (fieldsDiffering bits) area answer area'
 
 -- receive A(mode, I, Q, area): the answer, with the places, and the area after
 abbrev pub ReceivingA : ℕ → List ℤ → List ℤ → List ℕ → ReceivedBurst → List ℕ → Type 0

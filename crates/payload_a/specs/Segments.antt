@@ -5,6 +5,7 @@ use mathlib.Core.List.{List, [], _∷_, _++_}
 use Prim.Native.Nat.{ℕ, _+_, _*_}
 use lib.Dec.{leb}
 use lib.ListN.{length, take, drop, replicate}
+use Rattle.bits.specs.Words.{differ}
 
 -- the bits of a segment, of a row, which is a coded block and two segments, and of an OFDM symbol
 abbrev pub segmentBits : ℕ
@@ -60,3 +61,10 @@ protected bits = protectedIn (take symbolBits bits) ++ protectedIn (drop symbolB
 -- the protected bits as they are sent
 unfoldable pub fields : List ℕ
 fields = field1 ++ field2 ++ field3 ++ field1 ++ field2 ++ field3
+
+-- the number of those received, of 840 bits, that differ from them, and the most that may (document 02, item 3)
+abbrev pub fieldsDiffering : List ℕ → ℕ
+fieldsDiffering bits = differ fields (protected bits)
+
+abbrev pub mostDiffering : ℕ
+mostDiffering = 12

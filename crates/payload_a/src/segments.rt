@@ -20,6 +20,9 @@ pub const FIELD2: [u8; 10] = [1, 1, 1, 1, 1, 1, 1, 1, 1, 1];
 
 pub const FIELD3: [u8; 8] = [1, 1, 1, 1, 1, 1, 1, 1];
 
+// So many of the 56 protected bits of a burst may differ.
+pub const MOST_DIFFERING: usize = 12;
+
 // Puts bits into out, from index at on, where there is room for them.
 pub fn put(bits: &[u8], at: usize, out: &mut [u8])
     ensures { λ _. ⌜ now (out .exit) ≡ putAt (now (bits .entry)) at (now (out .entry)) ⌝ }

@@ -10,8 +10,7 @@ ghost use Rattle.symbols.specs.Grids.{received};
 ghost use Rattle.bch.specs.Codes.{code3};
 ghost use Rattle.payload_a.specs.Segments.{rowBits, symbolBits};
 ghost use Rattle.payload_a.specs.CodedA.{bytesA};
-ghost use Rattle.answers.specs.Checks.{passes};
-ghost use Rattle.payload_a.specs.PromiseA.{elementsA, pointsChecked, Answered, Receives};
+ghost use Rattle.payload_a.specs.PromiseA.{elementsA, noiseChecked, pointsChecked, Answered, Receives};
 ghost use Rattle.receiver_a.specs.Steps.{Pair, Rows, flatOf, Delivered, settledAs};
 use crate::phases;
 use crate::rows;
@@ -25,6 +24,7 @@ use payload_a::ELEMENTS;
 use payload_a::check;
 use payload_a::segments;
 use payload_a::segments::BLOCK;
+use payload_a::segments::MOST_DIFFERING;
 use symbols::grid;
 use symbols::grid::POINTS;
 use symbols::grid::SUB_CARRIERS;
@@ -141,12 +141,15 @@ fn answer(mode: u8, rows: [[u8; BLOCK]; 2], differing: usize, area: &mut [u8]) -
     }
 }
 
-// The answer for the bits of two OFDM symbols.
+// Check 11, and then the answer, for the bits of two OFDM symbols.
 fn read(mode: u8, first: &[u8], second: &[u8], area: &mut [u8]) -> ReceivedBurst
     requires { ⌜ (mode ≤ 1) × Pair symbolBits (now first) (now second) × (bytesA mode ≤ length (now area)) ⌝ }
-    ensures { λ r. ⌜ Receives (passes tt) mode (now (first .entry) ++ now (second .entry)) (now (area .entry)) r (now (area .exit)) ⌝ }
+    ensures { λ r. ⌜ Receives (noiseChecked (now (first .entry) ++ now (second .entry))) mode (now (first .entry) ++ now (second .entry)) (now (area .entry)) r (now (area .exit)) ⌝ }
 {
     let differing = rows::differing(first) + rows::differing(second);
+    if MOST_DIFFERING < differing {
+        return answers::no_burst(Refusal::Noise);
+    }
     let rows = [rows::block(first), rows::block(second)];
     answer(mode, rows, differing, area)
 }

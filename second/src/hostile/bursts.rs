@@ -3,7 +3,9 @@
 use super::grids::{Carried, Grid};
 use super::{bytes_of_a_frame, flip, lent, place, some_of, unknown, words, Faults};
 use crate::check::OTHERS;
-use crate::payload_a::{coded, frame_bytes, with_check, with_check_by, with_fields, POINTS};
+use crate::payload_a::{
+    coded, field_places, frame_bytes, with_check, with_check_by, with_fields, MOST_DIFFERING, POINTS,
+};
 use crate::rng::Rng;
 use crate::trial::Request;
 use crate::{bch, dqpsk, scrambler};
@@ -20,11 +22,13 @@ pub fn send(rng: &mut Rng) -> Request {
 }
 
 pub fn receive(rng: &mut Rng) -> Request {
-    let faults = Faults::aim(rng, &[1, 3, 7, 8, 9, 10]);
+    // Half of the bursts have no fault but in their bits, so that these decide the answer often.
+    let faults =
+        if rng.once_in(2) { Faults::any_of(rng, &[11, 9, 10]) } else { Faults::aim(rng, &[1, 3, 7, 8, 11, 9, 10]) };
     let (mode, length) = any_mode(rng);
     let sent = damaged(rng, &faults, mode, length);
     let mut framed = with_fields(&sent);
-    hit_fields(rng, &mut framed);
+    hit_fields(rng, &faults, &mut framed);
     let mut grid = Grid::new(&dqpsk::points(&framed), Carried::Dqpsk);
     if rng.once_in(12) {
         let count = rng.pick(&[1, 2, 4, 8, 9, 420]);
@@ -74,11 +78,12 @@ fn damaged(rng: &mut Rng, faults: &Faults, mode: u8, length: usize) -> Vec<u8> {
     let mut sent = coded(mode, &scrambler::scrambled(&information));
     if mode == 1 {
         let hopeless = some_of(rng, 2, faults.has(9));
+        let clean = rng.once_in(4);
         let code = bch::code(3).expect("code 3");
         for (half, hopeless) in sent.chunks_mut(code.n).zip(hopeless) {
             if hopeless {
                 words::make_hopeless(rng, code, half);
-            } else {
+            } else if !clean {
                 words::make_mendable(rng, code, half);
             }
         }
@@ -102,17 +107,18 @@ fn with_wrong_check(rng: &mut Rng, frame: &[u8]) -> Vec<u8> {
     information
 }
 
-/// Where the 56 protected bits stand in the 840.
-fn field_places() -> Vec<usize> {
-    (0..840).filter(|place| matches!(place % 420, 0..=9 | 206..=215 | 412..=419)).collect()
-}
-
-/// Flips protected bits: none, a few, around a dozen, or all of them.
-fn hit_fields(rng: &mut Rng, framed: &mut [u8]) {
+/// Flips protected bits: no more than may differ, often none or just as many; or more, often just one more, or all.
+fn hit_fields(rng: &mut Rng, faults: &Faults, framed: &mut [u8]) {
     let places = field_places();
-    let any = rng.between(0, places.len());
-    let count = rng.pick(&[0, 0, 0, 1, 2, 12, 13, any, any, places.len()]);
-    for chosen in rng.distinct(count, places.len()) {
+    let (most, all) = (MOST_DIFFERING as usize, places.len());
+    let count = if faults.has(11) {
+        let any = rng.between(most + 1, all);
+        rng.pick(&[most + 1, most + 1, any, any, any, all])
+    } else {
+        let any = rng.between(0, most);
+        rng.pick(&[0, 0, 0, 1, 2, most, most, any])
+    };
+    for chosen in rng.distinct(count, all) {
         framed[places[chosen]] ^= 1;
     }
 }
@@ -121,13 +127,24 @@ fn hit_fields(rng: &mut Rng, framed: &mut [u8]) {
 mod tests {
     use super::*;
     use crate::answer::Refusal;
+    use crate::payload_a::without_fields;
     use crate::{check, hostile, payload_a};
+    use std::collections::BTreeSet;
 
     #[test]
-    fn protected_bits_are_those_around_the_segments() {
-        let (zeros, ones) = (with_fields(&[0; 784]), with_fields(&[1; 784]));
-        let same: Vec<usize> = (0..840).filter(|&place| zeros[place] == ones[place]).collect();
-        assert_eq!(field_places(), same);
+    fn only_noise_has_more_protected_bits_that_differ_than_may() {
+        let mut rng = Rng::new(3);
+        for (faults, counts) in [(Faults(vec![9, 10]), 0..=12), (Faults(vec![11]), 13..=56)] {
+            let mut seen = BTreeSet::new();
+            for _ in 0..3_000 {
+                let mut framed = with_fields(&[0; 784]);
+                hit_fields(&mut rng, &faults, &mut framed);
+                let (segments, differing) = without_fields(&framed);
+                assert_eq!(segments, [0; 784]);
+                seen.insert(differing);
+            }
+            assert_eq!(seen, counts.collect());
+        }
     }
 
     #[test]

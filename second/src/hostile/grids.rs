@@ -93,7 +93,7 @@ mod tests {
             let mut grid = Grid::new(&[(1, 0); 420], Carried::Dqpsk);
             grid.wander(&mut rng, 300);
             let answer = payload_a::receive(1, &grid.i, &grid.q, &mut [0; 58]);
-            assert_eq!(answer, Err(Refusal::Hopeless(0)));
+            assert_eq!(answer, Err(Refusal::Noise));
             grid.stray(&mut rng);
             let answer = payload_a::receive(1, &grid.i, &grid.q, &mut [0; 58]);
             assert!(matches!(answer, Err(Refusal::Stray(_))));
