@@ -327,8 +327,9 @@ mod tests {
         for index in [0, 1] {
             let stray = |request: &mut Request| {
                 let answer = request.call();
-                if let Request::SendA { i, .. } = request {
-                    i[index] = 7;
+                match request {
+                    Request::SendA { i, .. } => i[index] = 7,
+                    _ => {}
                 }
                 answer
             };

@@ -177,7 +177,7 @@ static void hit_fields(size_t mode, size_t size, struct told answer)
 {
     for (size_t hits = 0; hits <= ORTKAVEQ_A_FIELDS; hits++) {
         if (hits > 0)
-            flip_a(in_fields(9 * hits % ORTKAVEQ_A_FIELDS));
+            flip_a(in_fields(9 * hits % ORTKAVEQ_A_FIELDS)); /* 9 and 56 have no divisor in common: each bit once */
         if (hits > ORTKAVEQ_A_MOST_DIFFERING) {
             REFUSE(ORTKAVEQ_NOISE, 0, run(RECEIVE_A, mode, size));
             continue;
@@ -188,7 +188,7 @@ static void hit_fields(size_t mode, size_t size, struct told answer)
     }
 }
 
-/* A hit in a segment breaks the check. */
+/* Hits in the fields are counted, or refused as noise; a hit in a segment breaks the check. */
 static void uncoded_a(size_t size)
 {
     sent(SEND_A, 0, size, LEVELS);
@@ -202,7 +202,7 @@ static void uncoded_a(size_t size)
 static size_t hit_at(size_t half, size_t hit) { return half == 0 ? 26 * hit + 1 : 23 * hit; }
 
 /* A burst with so many hits in each half. */
-static void hit_a(size_t size, size_t in_first, size_t in_second)
+static void hit_halves(size_t size, size_t in_first, size_t in_second)
 {
     sent(SEND_A, 1, size, LEVELS);
     for (size_t hit = 0; hit < in_first; hit++)
@@ -211,10 +211,10 @@ static void hit_a(size_t size, size_t in_first, size_t in_second)
         flip_a(in_half(1, hit_at(1, hit)));
 }
 
-/* They are mended just there, with a protected bit hit between them. */
+/* So many hits in each half are mended just there, with a protected bit hit between them. */
 static void hits_a(size_t size, size_t in_first, size_t in_second)
 {
-    hit_a(size, in_first, in_second);
+    hit_halves(size, in_first, in_second);
     flip_a(415);
     EXPECT(0, 0, in_first + in_second, 1, run(RECEIVE_A, 1, size));
     HOLD(same(&area, &frame, size));
@@ -237,8 +237,8 @@ static void another_a(size_t size)
 }
 
 /*
- * Up to t hits in each half are mended, one more is not; and with another codeword added to the first half the check is wrong, hits or none. Hits in the fields
- * beside them are counted, or noise.
+ * Up to t hits in each half are mended, one more is not; and with another codeword added to the first half the check is wrong, hits or none. Beside them up
+ * to 12 hits in the fields are counted; with more it is noise.
  */
 static void coded_a(size_t size)
 {
@@ -249,11 +249,11 @@ static void coded_a(size_t size)
         flip_a(in_half(*half, 390));
         REFUSE(ORTKAVEQ_UNCORRECTABLE, *half, run(RECEIVE_A, 1, size));
     }
-    hit_a(size, 0, 0);
+    hit_halves(size, 0, 0);
     hit_fields(1, size, (struct told){0, 0, 0, 0});
-    hit_a(size, ORTKAVEQ_T3, ORTKAVEQ_T3);
+    hit_halves(size, ORTKAVEQ_T3, ORTKAVEQ_T3);
     hit_fields(1, size, (struct told){0, 0, 2 * ORTKAVEQ_T3, 0});
-    hit_a(size, ORTKAVEQ_T3, ORTKAVEQ_T3);
+    hit_halves(size, ORTKAVEQ_T3, ORTKAVEQ_T3);
     flip_a(in_half(1, 390));
     hit_fields(1, size, (struct told){ORTKAVEQ_UNCORRECTABLE, 1, 0, 0});
     another_a(size);

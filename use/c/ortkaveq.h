@@ -141,8 +141,8 @@ struct ortkaveq_answer ortkaveq_decode(uint8_t code, const uint8_t *word, size_t
 struct ortkaveq_answer ortkaveq_send_a(uint8_t mode, const uint8_t *frame, size_t frame_length, int16_t *i, size_t i_length, int16_t *q, size_t q_length);
 
 /*
- * Receives a frame. One that was sent by the earlier rule of the frame check is refused with 10. More than 12 bits of the protected fields that differ are
- * noise, in both modes: refused with 11 before a block or the check is looked at, so that a burst can be refused whose frame could have been mended.
+ * Receives a frame. A burst of which more than 12 bits of the protected fields differ is refused as noise, with 11, in both modes, whatever its blocks and its
+ * check are, even where its frame could have been mended. Else one that was sent by the earlier rule of the frame check is refused with 10.
  * Reads: the first 512 elements of i and of q. Writes: the first 94 (mode 0) or 58 (mode 1) bytes of area, the frame; all 16 of first and of second, the places
  * mended in the first and in the second half: each an index, 0 to 391, in the 392 bits that its OFDM symbol carries beside protected fields; in mode 0 all 0.
  * mended is the number of places of both. With mended 1 and both lists all 0 it is place 0 of one of the two halves, and the answer does not say of which.

@@ -1,5 +1,5 @@
 // What the jobs answer (document 01, "Refusal numbers"): accepted, with the counts that the job has, or refused, for a reason at a place.
-// Document 01's number, place and counts of each answer come from here, for C, the trial program and the report alike.
+// Number, place and counts of each answer come from here, for C, the trial program and the report alike.
 ghost use mathlib.Core.Path.{_≡_};
 ghost use Rattle.answers.specs.Answers.{accepted, refused, because, ofWritten, ofDecoded, ofReceivedA, ofReceivedB, noWord, noBurst};
 

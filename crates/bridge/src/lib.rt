@@ -8,7 +8,7 @@ use answers::Told;
 use payload_b::plan;
 use payload_b::plan::Verdict;
 
-// Document 01's number, 0 for success, its place, and the count of bits mended, 0 where the call has none.
+// The number, 0 for success, its place, and the count of bits mended, 0 where the call has none.
 #[repr(C)]
 pub struct Answer {
     pub number: u32,
@@ -25,7 +25,7 @@ pub struct AnswerA {
     pub place: u64,
 }
 
-// Document 01's number, 0 for success, its place, and the OFDM symbols that a frame needs, 0 in a refusal.
+// The number, 0 for success, its place, and the OFDM symbols that a frame needs, 0 in a refusal.
 #[repr(C)]
 pub struct Needed {
     pub number: u32,

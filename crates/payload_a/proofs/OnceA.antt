@@ -15,7 +15,7 @@ use Rattle.points.specs.Dqpsk.{dibits}
 use Rattle.symbols.specs.Grids.{received}
 use Rattle.payload.specs.Wire.{Fits}
 use Rattle.payload.proofs.Wires.{fits-hopeless, one-hopeless}
-use Rattle.payload_a.specs.Segments.{carried, fieldsDiffering}
+use Rattle.payload_a.specs.Segments.{carried, protectedDiffering}
 use Rattle.payload_a.specs.PromiseA.{sendChecked, Sends, SendingA, receiveChecked, wireA, Hopeless, Answered, Receives, ReceivingA}
 use Rattle.payload_a.proofs.Coding.{block-codeword}
 use Rattle.payload_a.proofs.Framing.{length-carried}
@@ -56,7 +56,7 @@ module _ (area : List ℕ) (a b : ReceivedBurst) (u v : List ℕ) where
   one-received : (k : Checked Unit) (mode : ℕ) (bits : List ℕ) → length bits ≡ 840 → Receives k mode bits area a u → Receives k mode bits area b v
       → (a ≡ b) × (u ≡ v)
   one-received (fails number place) mode bits long p q = (burst-same a b (cc), cc)
-  one-received (passes _) mode bits long p q = answered-same mode (carried bits) (length-carried bits long) (fieldsDiffering bits) p q
+  one-received (passes _) mode bits long p q = answered-same mode (carried bits) (length-carried bits long) (protectedDiffering bits) p q
 
   pub receive-a-once : (mode : ℕ) (is qs : List ℤ) → ReceivingA mode is qs area a u → ReceivingA mode is qs area b v → (a ≡ b) × (u ≡ v)
   receive-a-once mode is qs = one-received (receiveChecked mode is qs area) mode (dibits (received 2 is qs)) (length-read is qs)

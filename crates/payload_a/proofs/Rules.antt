@@ -5,7 +5,7 @@ use mathlib.Core.Path.{_≡_, refl, sym, ap, _∙_}
 use mathlib.Core.Logic.{_≢_, inr}
 use mathlib.Core.Bool.{Bool, true, false, cond}
 use mathlib.Core.List.{List, _++_}
-use Prim.Native.Nat.{ℕ, zero, suc, _+_, _*_, _%_, _^_, _≤_, _<_}
+use Prim.Native.Nat.{ℕ, zero, suc, _+_, _*_, _%_, _^_, _<_}
 use native.Mathlib.Nat.{ne-of-gt}
 use native.Mathlib.Omega.{arith}
 use borrow.Author.Tests.{ne-eqb, ltb-true, ltb-false}
@@ -15,7 +15,7 @@ use lib.IntN.{ℤ}
 use lib.ListN.{length, replicate, take, drop}
 use lib.Seq.{take-at, drop-at}
 use Rattle.ground.proofs.Xors.{xor-cancel}
-use Rattle.answers.specs.Answers.{ofBurst, refusedBurst, noBurst}
+use Rattle.answers.specs.Answers.{ofBurst, noBurst}
 use Rattle.answers.specs.Checks.{Checked}
 use Rattle.answers.specs.declared.ReceivedBurst.{ReceivedBurst}
 use Rattle.answers.specs.declared.Refusal.the-variants.{WrongCheck}
@@ -33,7 +33,7 @@ use Rattle.payload.specs.Wire.{Wire, blockAt, Fits, Mendable}
 use Rattle.payload.proofs.Scrambling.{scrambled-inj}
 use Rattle.payload.proofs.Wires.{parts-same, block-long, fits-mendable}
 use Rattle.payload_a.specs.Check.{checkOf, withCheck}
-use Rattle.payload_a.specs.Segments.{rowBits, carried, fieldsDiffering, mostDiffering}
+use Rattle.payload_a.specs.Segments.{rowBits, carried, protectedDiffering, mostDiffering}
 use Rattle.payload_a.specs.CodedA.{bytesA, information, blocksA, codedA}
 use Rattle.payload_a.specs.PromiseA.{wireA, Receives, ReceivingA}
 use Rattle.payload_a.proofs.Sums.{earlierCheck, check-earlier}
@@ -44,7 +44,7 @@ use Rattle.payload_a.proofs.Framing.{length-carried}
 use Rattle.payload_a.proofs.Turnings.{length-read}
 use Rattle.payload_a.proofs.VerdictsA.{no-noise}
 use Rattle.payload_a.proofs.OnceA.{receive-a-once}
-use Rattle.payload_a.proofs.TripsA.{Legal, checks-left, noise-refused}
+use Rattle.payload_a.proofs.TripsA.{NoNoise, Legal, RefusedWith, checks-left, noise-refused}
 
 -- ---- what the earlier rule sends
 
@@ -159,10 +159,7 @@ earlier-mendable w g = fits-mendable (earlierWire 1) code3 refl refl (λ f l b. 
 
 module _ (mode : ℕ) (is qs : List ℤ) (area : List ℕ) (call : Legal mode is qs area) (answer : ReceivedBurst) (after : List ℕ)
     (receiving : ReceivingA mode is qs area answer after) (g : List ℕ) (fits : Fits (earlierWire mode) (carried (dibits (received 2 is qs))) g) where
-  abbrev RefusedWith : ℕ → Type 0
-  RefusedWith number = (ofBurst answer ≡ refusedBurst number 0) × (after ≡ area)
-
-  wrong-check : fieldsDiffering (dibits (received 2 is qs)) ≤ mostDiffering → RefusedWith 10
+  wrong-check : NoNoise (dibits (received 2 is qs)) → RefusedWith 10 area answer after
   wrong-check few =
       let bits = dibits (received 2 is qs) in
       let made = noBurst WrongCheck in
@@ -178,9 +175,9 @@ module _ (mode : ℕ) (is qs : List ℤ) (area : List ℕ) (call : Legal mode is
       (ap ofBurst (same .0), same .1)
 
   -- where a frame of the earlier rule fits, clean or with as many hits as are mended, the call is refused with 10, noise with 11, and the area is as it was
-  pub earlier-refused : RefusedWith (cond (ltb mostDiffering (fieldsDiffering (dibits (received 2 is qs)))) 11 10)
-  earlier-refused = by (ltb mostDiffering (fieldsDiffering (dibits (received 2 is qs)))) refl
+  pub earlier-refused : RefusedWith (cond (ltb mostDiffering (protectedDiffering (dibits (received 2 is qs)))) 11 10) area answer after
+  earlier-refused = by (ltb mostDiffering (protectedDiffering (dibits (received 2 is qs)))) refl
     where
-      by : (b : Bool) → ltb mostDiffering (fieldsDiffering (dibits (received 2 is qs))) ≡ b → RefusedWith (cond b 11 10)
+      by : (b : Bool) → ltb mostDiffering (protectedDiffering (dibits (received 2 is qs))) ≡ b → RefusedWith (cond b 11 10) area answer after
       by true e = noise-refused call answer after receiving (ltb-true mostDiffering _ e)
       by false e = wrong-check (ltb-false mostDiffering _ e)

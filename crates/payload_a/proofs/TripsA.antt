@@ -36,7 +36,7 @@ use Rattle.symbols.proofs.Rooms.{room-enough}
 use Rattle.bch.proofs.Listings.{Names, names}
 use Rattle.payload.specs.Wire.{blockAt, Fits}
 use Rattle.payload.proofs.Wires.{fits-clean}
-use Rattle.payload_a.specs.Segments.{rowBits, framed, carried, protected, fields, fieldsDiffering, mostDiffering}
+use Rattle.payload_a.specs.Segments.{rowBits, framed, carried, protected, fields, protectedDiffering, mostDiffering}
 use Rattle.payload_a.specs.CodedA.{bytesA, codedA, pointsA, sentI, sentQ}
 use Rattle.payload_a.specs.PromiseA.{elementsA, pointCountA, sendChecked, Sends, SendingA}
 use Rattle.payload_a.specs.PromiseA.{noiseChecked, receiveChecked, wireA, placesIn, Goes, Answered, Receives, ReceivingA}
@@ -48,6 +48,10 @@ use Rattle.payload_a.proofs.OnceA.{receive-a-once}
 
 -- ---- every check
 
+-- no more protected bits differ than may
+abbrev pub NoNoise : List ℕ → Type 0
+NoNoise bits = protectedDiffering bits ≤ mostDiffering
+
 -- what holds of each check that fails, and where all pass: of send's, and of receive's
 module _ (P : Checked Unit → Type 0) (failed : (number place : ℕ) → 0 < number → P (fails number place)) where
   by-send : (mode : ℕ) (frame : List ℕ) (is qs : List ℤ) → (mode ≤ 1 → length frame ≡ bytesA mode → P (passes tt)) → P (sendChecked mode frame is qs)
@@ -58,14 +62,14 @@ module _ (P : Checked Unit → Type 0) (failed : (number place : ℕ) → 0 < nu
       (λ _. failed 2 0 (omega arith)))
       (λ _. failed 1 0 (omega arith))
 
-  by-receive : (mode : ℕ) (is qs : List ℤ) (area : List ℕ) → (mode ≤ 1 → fieldsDiffering (dibits (received 2 is qs)) ≤ mostDiffering → P (passes tt))
+  by-receive : (mode : ℕ) (is qs : List ℤ) (area : List ℕ) → (mode ≤ 1 → NoNoise (dibits (received 2 is qs)) → P (passes tt))
       → P (receiveChecked mode is qs area)
   by-receive mode is qs area on =
       by-test P (leb mode 1)
       (λ k. by-test P (room elementsA is qs && leb (bytesA mode) (length area))
       (λ _. by-test P (ltb (firstOccupied is qs 0 elementsA) elementsA) (λ _. failed 7 _ (omega arith))
       (λ _. by-test P (ltb (strayAt (received 2 is qs)) pointCountA) (λ _. failed 8 _ (omega arith))
-      (λ _. by-test P (ltb mostDiffering (fieldsDiffering (dibits (received 2 is qs)))) (λ _. failed 11 0 (omega arith))
+      (λ _. by-test P (ltb mostDiffering (protectedDiffering (dibits (received 2 is qs)))) (λ _. failed 11 0 (omega arith))
       (λ e. on (leb-true mode 1 k) (ltb-false mostDiffering _ e)))))
       (λ _. failed 3 0 (omega arith)))
       (λ _. failed 1 0 (omega arith))
@@ -147,14 +151,14 @@ module _ (mode : ℕ) (is qs : List ℤ) (area : List ℕ) (answer : ReceivedBur
   in-front frame long left = ap (take (bytesA mode)) left ∙ take-at frame (drop (bytesA mode) area) (bytesA mode) long
 
   abbrev Up : Type 0
-  Up = (mode ≤ 1) × (fieldsDiffering bits ≤ mostDiffering) × Goes mode (carried bits) (fieldsDiffering bits) area answer after
+  Up = (mode ≤ 1) × NoNoise bits × Goes mode (carried bits) (protectedDiffering bits) area answer after
 
   goes : Up
   goes =
       by-receive (λ k. Receives k mode bits area answer after → Up) (λ number place l p. absurd (not-refused tells (burst-told answer (p .0)) l))
       mode is qs area of-answer receiving
     where
-      of-answer : mode ≤ 1 → fieldsDiffering bits ≤ mostDiffering → Answered mode (carried bits) (fieldsDiffering bits) area answer after → Up
+      of-answer : mode ≤ 1 → NoNoise bits → Answered mode (carried bits) (protectedDiffering bits) area answer after → Up
       of-answer known few (inl p) = (known, few, p)
       of-answer known few (inr (inl p)) = absurd (not-refused tells (burst-told answer (p .tells)) (omega arith))
       of-answer known few (inr (inr p)) = absurd (not-refused tells (burst-told answer (p .tells)) (omega arith))
@@ -219,7 +223,8 @@ module _ (is qs : List ℤ) (area : List ℕ) (answer : ReceivedBurst) (after : 
 
   pub uncoded-places : ReceivingA 0 is qs area answer after → NoPlace
   uncoded-places =
-      by-receive (λ k. Receives k 0 (dibits (received 2 is qs)) area answer after → NoPlace) (λ number place l p. lists (p .0)) 0 is qs area (λ known few. answered)
+      by-receive (λ k. Receives k 0 (dibits (received 2 is qs)) area answer after → NoPlace) (λ number place l p. lists (p .0)) 0 is qs area
+      (λ known few. answered)
     where
       lists : {t : ToldBurst} → ofBurst answer ≡ t → (answer .first ≡ t .first) × (answer .second ≡ t .second)
       lists e = (ap (λ (t : ToldBurst). t .first) e, ap (λ (t : ToldBurst). t .second) e)
@@ -229,14 +234,14 @@ module _ (is qs : List ℤ) (area : List ℕ) (answer : ReceivedBurst) (after : 
           let same = differ-zero (blockAt rowBits half (codedA 0 frame)) (blockAt rowBits half word) (omega (arith, fits .near half l)) in
           ap (λ (v : List ℕ). places v (blockAt rowBits half word)) same ∙ places-self (blockAt rowBits half word)
 
-      answered : Answered 0 (carried (dibits (received 2 is qs))) (fieldsDiffering (dibits (received 2 is qs))) area answer after → NoPlace
+      answered : Answered 0 (carried (dibits (received 2 is qs))) (protectedDiffering (dibits (received 2 is qs))) area answer after → NoPlace
       answered (inl p) =
           let e = lists (p .tells) in
           (e .0 ∙ ap listed (none (p .frame) _ (p .fits) 0 (omega arith)), e .1 ∙ ap listed (none (p .frame) _ (p .fits) 1 (omega arith)))
       answered (inr (inl p)) = lists (p .tells)
       answered (inr (inr p)) = lists (p .tells)
 
--- ---- a frame goes up exactly when it fits
+-- ---- a frame goes up exactly when it fits and the burst is no noise
 
 -- the answer for a burst that is accepted
 abbrev pub burstOf : ℕ → ℕ → List ℕ → List ℕ → ReceivedBurst
@@ -250,18 +255,22 @@ pub record Legal (mode : ℕ) (is qs : List ℤ) (area : List ℕ) : Type 0 wher
   pub empty : firstOccupied is qs 0 elementsA ≡ elementsA
   pub legal : strayAt (received 2 is qs) ≡ pointCountA
 
+-- a call is refused with this number, at place 0, and the area is as it was
+abbrev pub RefusedWith : ℕ → List ℕ → ReceivedBurst → List ℕ → Type 0
+RefusedWith number area answer after = (ofBurst answer ≡ refusedBurst number 0) × (after ≡ area)
+
 module _ {mode : ℕ} {is qs : List ℤ} {area : List ℕ} (call : Legal mode is qs area) where
-  -- all its checks pass but the one for noise, which is left
+  -- of its checks the one for noise alone is left
   pub checks-left : (P : Checked Unit → Type 0) → P (noiseChecked (dibits (received 2 is qs))) → P (receiveChecked mode is qs area)
   checks-left P p =
       receivable P mode is qs area (call .known) (call .points) (call .room) (legal P is qs (omega (arith, call .empty)) (omega (arith, call .legal)) p)
 
   -- noise is refused, whatever its blocks hold and whatever its check is, and the area is as it was
   pub noise-refused : (answer : ReceivedBurst) (after : List ℕ) → ReceivingA mode is qs area answer after
-      → mostDiffering < fieldsDiffering (dibits (received 2 is qs)) → (ofBurst answer ≡ refusedBurst 11 0) × (after ≡ area)
+      → mostDiffering < protectedDiffering (dibits (received 2 is qs)) → RefusedWith 11 area answer after
   noise-refused answer after receiving l =
       let bits = dibits (received 2 is qs) in
-      let P : Checked Unit → Type 0 = λ k. Receives k mode bits area answer after → (ofBurst answer ≡ refusedBurst 11 0) × (after ≡ area) in
+      let P : Checked Unit → Type 0 = λ k. Receives k mode bits area answer after → RefusedWith 11 area answer after in
       checks-left P (noise P bits l (λ p. p)) receiving
 
 -- a frame goes up: the call is accepted, with so many bits mended and so many protected bits that differ, and the frame stands at the front of the area
@@ -277,17 +286,14 @@ module _ (mode : ℕ) (is qs : List ℤ) (area : List ℕ) (call : Legal mode is
   abbrev Near : Type 0
   Near = (block : ℕ) → block < 2 → differ (blockAt rowBits block (codedA mode frame)) (blockAt rowBits block word) ≤ wireA mode .mends
 
-  -- and no more protected bits differ than may: the burst is no noise
-  abbrev NoNoise : Type 0
-  NoNoise = fieldsDiffering (dibits (received 2 is qs)) ≤ mostDiffering
-
   -- it is answered so, with the places of each half
-  pub answered-near : Near → NoNoise
-      → (answer ≡ burstOf (differ (codedA mode frame) word) (fieldsDiffering (dibits (received 2 is qs))) (placesIn 0 mode frame word) (placesIn 1 mode frame word))
+  pub answered-near : Near → NoNoise (dibits (received 2 is qs))
+      → (answer ≡ burstOf (differ (codedA mode frame) word) (protectedDiffering (dibits (received 2 is qs)))
+      (placesIn 0 mode frame word) (placesIn 1 mode frame word))
       × (after ≡ frame ++ drop (bytesA mode) area)
   answered-near near few =
       let bits = dibits (received 2 is qs) in
-      let made = burstOf (differ (codedA mode frame) word) (fieldsDiffering bits) (placesIn 0 mode frame word) (placesIn 1 mode frame word) in
+      let made = burstOf (differ (codedA mode frame) word) (protectedDiffering bits) (placesIn 0 mode frame word) (placesIn 1 mode frame word) in
       let left = frame ++ drop (bytesA mode) area in
       let P : Checked Unit → Type 0 = λ k. Receives k mode bits area made left in
       let there : ReceivingA mode is qs area made left
@@ -295,10 +301,11 @@ module _ (mode : ℕ) (is qs : List ℤ) (area : List ℕ) (call : Legal mode is
       (inl (record { frame = frame; fits = record { long = long; bytes = bytes; near = near }; tells = refl; left = refl }))) in
       receive-a-once area answer made after left mode is qs receiving there
 
-  pub up-when-near : Near → NoNoise → GoesUp mode area answer after frame (differ (codedA mode frame) word) (fieldsDiffering (dibits (received 2 is qs)))
+  pub up-when-near : Near → NoNoise (dibits (received 2 is qs))
+      → GoesUp mode area answer after frame (differ (codedA mode frame) word) (protectedDiffering (dibits (received 2 is qs)))
   up-when-near near few = let same = answered-near near few in (ap (λ (r : ReceivedBurst). ofReceivedA (r .answer)) (same .0), same .1)
 
-  pub near-when-up : (mended differing : ℕ) → GoesUp mode area answer after frame mended differing → Near × NoNoise
+  pub near-when-up : (mended differing : ℕ) → GoesUp mode area answer after frame mended differing → Near × NoNoise (dibits (received 2 is qs))
   near-when-up mended differing up = (
     up-fits mode is qs area answer after receiving mended differing (up .0) frame long (up .1) .near,
     goes mode is qs area answer after receiving mended differing (up .0) .1,

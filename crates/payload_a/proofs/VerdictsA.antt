@@ -12,7 +12,7 @@ use lib.ListN.{length}
 use Rattle.points.specs.Dqpsk.{dibits, strayAt}
 use Rattle.symbols.specs.Grids.{received, indexOf, firstOccupied, room}
 use Rattle.answers.specs.Checks.{Checked, fails, passes}
-use Rattle.payload_a.specs.Segments.{fieldsDiffering, mostDiffering}
+use Rattle.payload_a.specs.Segments.{protectedDiffering, mostDiffering}
 use Rattle.payload_a.specs.CodedA.{bytesA}
 use Rattle.payload_a.specs.PromiseA.{sendChecked, noiseChecked, pointsChecked, receiveChecked}
 
@@ -60,8 +60,8 @@ module _ (P : Checked Unit → Type 0) (is qs : List ℤ) where
 -- ---- noise
 
 module _ (P : Checked Unit → Type 0) (bits : List ℕ) where
-  pub noise : mostDiffering < fieldsDiffering bits → P (fails 11 0) → P (noiseChecked bits)
-  noise l p = rw (lt-ltb mostDiffering (fieldsDiffering bits) l) p
+  pub noise : mostDiffering < protectedDiffering bits → P (fails 11 0) → P (noiseChecked bits)
+  noise l p = rw (lt-ltb mostDiffering (protectedDiffering bits) l) p
 
-  pub no-noise : fieldsDiffering bits ≤ mostDiffering → P (passes tt) → P (noiseChecked bits)
-  no-noise l p = rw (le-ltb mostDiffering (fieldsDiffering bits) l) p
+  pub no-noise : protectedDiffering bits ≤ mostDiffering → P (passes tt) → P (noiseChecked bits)
+  no-noise l p = rw (le-ltb mostDiffering (protectedDiffering bits) l) p

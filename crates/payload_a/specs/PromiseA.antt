@@ -1,5 +1,5 @@
 -- What sending and receiving Payload A promise: for every mode, frame, grid and lent list, the answer and what the lent lists hold after.
--- Receiving is stated by what was sent: demand 3's sentence on Payload A is `Answered`.
+-- Receiving is stated by what was sent: demand 3's sentence on Payload A is `Answered`, behind `noiseChecked` (document 02, item 3).
 -- Assumes nothing.
 use mathlib.Core.Path.{_≡_}
 use mathlib.Core.Logic.{_⊎_}
@@ -20,7 +20,7 @@ use Rattle.points.specs.Dqpsk.{dibits, strayAt}
 use Rattle.symbols.specs.Grid.{subCarriers, symbolPoints}
 use Rattle.symbols.specs.Grids.{received, indexOf, firstOccupied, room}
 use Rattle.payload.specs.Wire.{Wire, blockAt, Fits, Mendable, FirstHopeless}
-use Rattle.payload_a.specs.Segments.{rowBits, carried, fieldsDiffering, mostDiffering}
+use Rattle.payload_a.specs.Segments.{rowBits, carried, protectedDiffering, mostDiffering}
 use Rattle.payload_a.specs.CodedA.{bytesA, codedA, sentI, sentQ}
 
 -- the elements of I and of Q that two OFDM symbols take, and the points that they hold
@@ -49,7 +49,7 @@ SendingA mode frame is qs = Sends (sendChecked mode frame is qs) mode frame is q
 
 -- check 11, of the bits received: more protected bits differ than may, and that is noise
 abbrev pub noiseChecked : List ℕ → Checked Unit
-noiseChecked bits = cond (ltb mostDiffering (fieldsDiffering bits)) (fails 11 0) (passes tt)
+noiseChecked bits = cond (ltb mostDiffering (protectedDiffering bits)) (fails 11 0) (passes tt)
 
 -- checks 7 and 8 before it: 7 over both OFDM symbols before 8 begins
 abbrev pub pointsChecked : List ℤ → List ℤ → Checked Unit
@@ -101,7 +101,7 @@ Answered mode bits differing area answer area' =
 
 abbrev pub Receives : Checked Unit → ℕ → List ℕ → List ℕ → ReceivedBurst → List ℕ → Type 0
 Receives (fails number place) mode bits area answer area' = (ofBurst answer ≡ refusedBurst number place) × (area' ≡ area)
-Receives (passes _) mode bits area answer area' = Answered mode (carried bits) (fieldsDiffering bits) area answer area'
+Receives (passes _) mode bits area answer area' = Answered mode (carried bits) (protectedDiffering bits) area answer area'
 
 -- receive A(mode, I, Q, area): the answer, with the places, and the area after
 abbrev pub ReceivingA : ℕ → List ℤ → List ℤ → List ℕ → ReceivedBurst → List ℕ → Type 0

@@ -62,9 +62,9 @@ protected bits = protectedIn (take symbolBits bits) ++ protectedIn (drop symbolB
 unfoldable pub fields : List ℕ
 fields = field1 ++ field2 ++ field3 ++ field1 ++ field2 ++ field3
 
--- the number of those received, of 840 bits, that differ from them, and the most that may (document 02, item 3)
-abbrev pub fieldsDiffering : List ℕ → ℕ
-fieldsDiffering bits = differ fields (protected bits)
+-- in how many places the protected bits of 840 bits received differ from those sent, and in how many they may (document 02, item 3)
+abbrev pub protectedDiffering : List ℕ → ℕ
+protectedDiffering bits = differ fields (protected bits)
 
 abbrev pub mostDiffering : ℕ
 mostDiffering = 12

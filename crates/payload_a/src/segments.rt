@@ -20,7 +20,7 @@ pub const FIELD2: [u8; 10] = [1, 1, 1, 1, 1, 1, 1, 1, 1, 1];
 
 pub const FIELD3: [u8; 8] = [1, 1, 1, 1, 1, 1, 1, 1];
 
-// So many of the 56 protected bits of a burst may differ.
+// At most so many of the 56 protected bits of a burst may differ (document 02, item 3).
 pub const MOST_DIFFERING: usize = 12;
 
 // Puts bits into out, from index at on, where there is room for them.

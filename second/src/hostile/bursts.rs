@@ -107,7 +107,8 @@ fn with_wrong_check(rng: &mut Rng, frame: &[u8]) -> Vec<u8> {
     information
 }
 
-/// Flips protected bits: no more than may differ, often none or just as many; or more, often just one more, or all.
+/// Flips protected bits. Aimed at 11, more than may differ, often just one more, or all; else no more than may, often none
+/// or just as many.
 fn hit_fields(rng: &mut Rng, faults: &Faults, framed: &mut [u8]) {
     let places = field_places();
     let (most, all) = (MOST_DIFFERING as usize, places.len());

@@ -1,4 +1,4 @@
--- `answers::of_refusal` meets its contract: document 01's number for each reason, and its place.
+-- `answers::of_refusal` meets its contract: the number of each reason, and its place.
 -- Assumes nothing.
 use borrow.Author.Needs.{needs}
 use Rattle.answers.proofs.of_refusal.Statement.{statement}

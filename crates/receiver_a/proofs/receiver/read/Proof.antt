@@ -9,7 +9,7 @@ use Rattle.answers.specs.Answers.{ofBurst}
 use Rattle.answers.specs.Checks.{Checked}
 use Rattle.answers.specs.declared.ReceivedBurst.{ReceivedBurst}
 use Rattle.bits.specs.Words.{differ}
-use Rattle.payload_a.specs.Segments.{field1, field2, field3, protectedIn, fieldsDiffering}
+use Rattle.payload_a.specs.Segments.{field1, field2, field3, protectedIn, protectedDiffering}
 use Rattle.payload_a.specs.PromiseA.{Receives}
 use Rattle.payload_a.proofs.Fields.{bits-carried-by, length-carried-by}
 use Rattle.payload_a.proofs.Framing.{carried-append, differ-fields}
@@ -30,7 +30,7 @@ Promised s answer area k = Receives k (s .args .mode) (bits s) (s .args .area .n
 abbrev begin : tie.After-differing2 → tie.Start
 begin c = c .before .before .before .before .before
 
-counted : (c : tie.After-differing2) → c .before .differing .result + c .differing2 .result ≡ fieldsDiffering (bits (begin c))
+counted : (c : tie.After-differing2) → c .before .differing .result + c .differing2 .result ≡ protectedDiffering (bits (begin c))
 counted c =
     let first = begin c .args .first .now in
     let second = begin c .args .second .now in
