@@ -345,7 +345,11 @@ pub(crate) mod tests {
                 let answer = receive(mode, &i, &q, &mut area).map(|counts| (counts.mended, counts.protected));
                 let refusal = if differing > 12 { Some(Refusal::Noise) } else { otherwise };
                 let accepted = Ok(((first + second) as u64, differing as u64));
-                assert_eq!(answer, refusal.map_or(accepted, Err), "mode {mode}, {first} and {second} hits, {differing} in the fields");
+                assert_eq!(
+                    answer,
+                    refusal.map_or(accepted, Err),
+                    "mode {mode}, {first} and {second} hits, {differing} in the fields"
+                );
                 let written = if refusal.is_none() { length } else { 0 };
                 assert_eq!(area, [&frame[..written], &vec![0xEE; length + 2 - written]].concat());
             }
