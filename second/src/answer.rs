@@ -1,5 +1,5 @@
-//! What a job answers: its counts and the mended places of request 10, or a refusal with a number and a place. The
-//! numbers are document 01's 1 to 10, and request 3's 11.
+//! What a job answers: its counts, the worst block's of request 8 among them, and the mended places of request 10; or a
+//! refusal with a number and a place. The numbers are document 01's 1 to 10, and request 3's 11.
 
 /// Why a job was refused. The cases stand in the order of their numbers, not in the order of the checks.
 #[derive(Clone, Copy, Debug, PartialEq, Eq)]
@@ -84,9 +84,19 @@ pub struct Counts {
     pub mended: u64,
     /// Protected bits of Payload A that differ.
     pub protected: u64,
+    /// Bits mended in the worst block of a burst or frame.
+    pub worst: u64,
     /// The mended places. Decode has those of its word in the first list; receive A in mode 1 has those of its first
     /// half and of its second, each counted from 0 in its half. All other lists are all 0.
     pub places: [Places; 2],
+}
+
+impl Counts {
+    /// The total and the worst of blocks with these mended places. Without blocks, 0 and 0.
+    pub fn of_blocks(blocks: &[Vec<usize>]) -> Counts {
+        let each = blocks.iter().map(|places| places.len() as u64);
+        Counts { mended: each.clone().sum(), worst: each.max().unwrap_or(0), ..Counts::default() }
+    }
 }
 
 pub type Answer = Result<Counts, Refusal>;
@@ -113,6 +123,19 @@ mod tests {
         assert_eq!(Refusal::WrongCheck.place(), 0);
         assert_eq!(Refusal::Noise.number() as usize, NUMBERS - 1);
         assert_eq!(Refusal::Noise.place(), 0);
+    }
+
+    #[test]
+    fn the_worst_of_blocks_is_their_largest_count() {
+        let counted = |hits: &[usize]| {
+            let blocks: Vec<Vec<usize>> = hits.iter().map(|&count| (0..count).collect()).collect();
+            let counts = Counts::of_blocks(&blocks);
+            assert_eq!(counts, Counts { mended: counts.mended, worst: counts.worst, ..Counts::default() });
+            (counts.mended, counts.worst)
+        };
+        assert_eq!([counted(&[]), counted(&[0]), counted(&[0, 0])], [(0, 0); 3]);
+        assert_eq!([counted(&[3, 1, 2]), counted(&[1, 3, 2]), counted(&[2, 1, 3])], [(6, 3); 3]);
+        assert_eq!([counted(&[2, 2]), counted(&[1, 2, 1]), counted(&[0, 2, 2, 0])], [(4, 2); 3]);
     }
 
     #[test]

@@ -81,7 +81,7 @@ pub fn decode(number: u8, word: &[u8], out: &mut [u8]) -> Answer {
     all_bits(word)?;
     let (codeword, places) = code.mended(word).ok_or(Refusal::Hopeless(0))?;
     out[..code.n].copy_from_slice(&codeword);
-    Ok(Counts { mended: places.len() as u64, protected: 0, places: [listed(&places), listed(&[])] })
+    Ok(Counts { mended: places.len() as u64, places: [listed(&places), listed(&[])], ..Counts::default() })
 }
 
 /// Check 4: every element is 0 or 1.

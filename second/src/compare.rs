@@ -199,9 +199,9 @@ pub(crate) fn difference(request: &Request, expected: &[u8], got: &[u8]) -> Stri
     format!("{heads}\n  of {} bytes, {} came; first difference at {}", expected.len(), got.len(), part(request, at))
 }
 
-/// The counts that a job's response has after number and place.
-fn counts(request: &Request) -> &'static [&'static str] {
-    [&[][..], &["mended"], &[], &["mended", "protected"], &[], &["mended"]][request.job() as usize - 1]
+/// What a job's response has after its number, eight bytes each: the place, and its counts.
+fn eights(request: &Request) -> Vec<&'static str> {
+    ["place"].into_iter().chain(request.counts().iter().map(|(name, _)| *name)).collect()
 }
 
 /// The lists of mended places that it has after them.
@@ -215,10 +215,11 @@ fn head(request: &Request, response: &[u8]) -> String {
         return "nothing".to_string();
     };
     let mut text = format!("number {number}");
-    for (name, eight) in ["place"].iter().chain(counts(request)).zip(response[1..].chunks_exact(8)) {
+    let eights = eights(request);
+    for (name, eight) in eights.iter().zip(response[1..].chunks_exact(8)) {
         text += &format!(" {name} {}", u64::from_le_bytes(eight.try_into().expect("eight bytes")));
     }
-    let after = response.get(9 + 8 * counts(request).len()..).unwrap_or_default();
+    let after = response.get(1 + 8 * eights.len()..).unwrap_or_default();
     for (name, list) in lists_of_places(request).iter().zip(after.chunks_exact(2 * MOST_PLACES)) {
         let places: Vec<u16> = list.chunks(2).map(|two| u16::from_le_bytes([two[0], two[1]])).collect();
         text += &format!(" {name} {places:?}");
@@ -228,10 +229,14 @@ fn head(request: &Request, response: &[u8]) -> String {
 
 /// Which part of a response the byte at an offset belongs to.
 fn part(request: &Request, at: usize) -> String {
-    let mut begin = 9 + 8 * counts(request).len();
-    if at < begin {
-        return format!("byte {at}, in number, place and counts");
+    if at == 0 {
+        return "byte 0, the number".to_string();
     }
+    let eights = eights(request);
+    if let Some(name) = eights.get((at - 1) / 8) {
+        return format!("byte {at}, in {name}");
+    }
+    let mut begin = 1 + 8 * eights.len();
     for name in lists_of_places(request) {
         if at < begin + 2 * MOST_PLACES {
             return format!("byte {at}, {name}[{}]", (at - begin) / 2);
@@ -258,6 +263,8 @@ fn part(request: &Request, at: usize) -> String {
 #[cfg(test)]
 mod tests {
     use super::*;
+    use crate::answer::Counts;
+    use crate::{payload_a, payload_b};
 
     fn compared(script: &str, count: u64) -> (bool, String) {
         let command: Vec<String> = ["sh", "-c", script].map(String::from).to_vec();
@@ -311,12 +318,58 @@ mod tests {
         let request = Request::ReceiveA { mode: 1, i: vec![], q: vec![], area: vec![5; 3] };
         let expected = answered(request.clone(), &mut Tally::default());
         let mut got = expected.clone();
-        got[95] = 6;
-        assert!(difference(&request, &expected, &got).ends_with("at byte 95, area[2]"));
-        got[89] = 6;
-        assert!(difference(&request, &expected, &got).ends_with("at byte 89, in the count of area"));
+        got[103] = 6;
+        assert!(difference(&request, &expected, &got).ends_with("at byte 103, area[2]"));
+        got[97] = 6;
+        assert!(difference(&request, &expected, &got).ends_with("at byte 97, in the count of area"));
         got[9] = 7;
-        assert!(difference(&request, &expected, &got).contains("number 3 place 0 mended 7 protected 0"));
+        assert!(difference(&request, &expected, &got).contains("number 3 place 0 mended 7 protected 0 worst 0"));
+    }
+
+    #[test]
+    fn counts_that_differ_are_named() {
+        let a = Request::ReceiveA { mode: 1, i: vec![], q: vec![], area: vec![] };
+        let b = Request::ReceiveB { mode: 1, length: 0, scheme: vec![], i: vec![], q: vec![], area: vec![] };
+        let decode = Request::Decode { code: 1, word: vec![], out: vec![] };
+        let send = Request::SendA { mode: 1, frame: vec![], i: vec![], q: vec![] };
+        let all: [(Request, &[&str]); 4] = [
+            (a, &["place", "mended", "protected", "worst"]),
+            (b, &["place", "mended", "worst"]),
+            (decode, &["place", "mended"]),
+            (send, &["place"]),
+        ];
+        for (request, names) in all {
+            assert_eq!(part(&request, 0), "byte 0, the number");
+            for (number, name) in names.iter().enumerate() {
+                for at in [8 * number + 1, 8 * number + 8] {
+                    assert_eq!(part(&request, at), format!("byte {at}, in {name}"));
+                }
+            }
+            assert!(names.iter().all(|name| !part(&request, 8 * names.len() + 1).ends_with(name)));
+        }
+    }
+
+    /// The difference that a receiver makes which answers this in the place of the worst.
+    fn with_worst(mut request: Request, worst: u64) -> String {
+        let counts = request.call().unwrap();
+        let wrong = Counts { worst, ..counts };
+        difference(&request, &response(&request, Ok(counts)), &response(&request, Ok(wrong)))
+    }
+
+    #[test]
+    fn a_count_of_another_block_than_the_worst_is_named() {
+        // 1, 3 and 2 hits in the three blocks.
+        let (i, q) = payload_b::tests::hit(1, &[6; 177], &[2; 210], &[7, 508, 700, 1015, 1016, 1523]);
+        let b = Request::ReceiveB { mode: 1, length: 177, scheme: vec![2; 210], i, q, area: vec![9; 177] };
+        let heads = "  expected number 0 place 0 mended 6 worst 3\n  got      number 0 place 0 mended 6 worst 2\n";
+        let text = with_worst(b, 2);
+        assert_eq!(text, format!("{heads}  of 206 bytes, 206 came; first difference at byte 17, in worst"));
+        // 2 and 1 in the two halves.
+        let (i, q) = payload_a::tests::hit(1, &payload_a::with_check(&[6; 58]), &[0, 300, 393], &[0]);
+        let text = with_worst(Request::ReceiveA { mode: 1, i, q, area: vec![9; 58] }, 1);
+        assert!(text.contains("expected number 0 place 0 mended 3 protected 1 worst 2 first places"), "{text}");
+        assert!(text.contains("got      number 0 place 0 mended 3 protected 1 worst 1 first places"), "{text}");
+        assert!(text.ends_with("at byte 25, in worst"), "{text}");
     }
 
     #[test]
@@ -324,20 +377,20 @@ mod tests {
         let request = Request::ReceiveA { mode: 1, i: vec![], q: vec![], area: vec![5; 3] };
         let expected = answered(request.clone(), &mut Tally::default());
         let zeros = "0, 0, 0, 0, 0, 0, 0, 0, 0, 0, 0, 0, 0, 0, 0";
-        for (at, name) in [(25, "first places[0]"), (56, "first places[15]"), (57, "second places[0]")] {
+        for (at, name) in [(33, "first places[0]"), (64, "first places[15]"), (65, "second places[0]")] {
             let mut got = expected.clone();
             got[at] = 1;
             let text = difference(&request, &expected, &got);
             assert!(text.ends_with(&format!("at byte {at}, {name}")), "{text}");
         }
         let mut got = expected.clone();
-        (got[88], got[57]) = (1, 3);
-        let text = difference(&request, &expected, &got[..89]);
+        (got[96], got[65]) = (1, 3);
+        let text = difference(&request, &expected, &got[..97]);
         let lists = format!(" first places [0, {zeros}] second places [3, {}, 256]\n", &zeros[3..]);
         assert!(text.contains(&lists), "{text}");
         // A list that is cut is not shown.
-        let text = difference(&request, &expected, &got[..88]);
-        assert!(text.contains(&format!(" first places [0, {zeros}]\n  of 96 bytes, 88 came;")), "{text}");
+        let text = difference(&request, &expected, &got[..96]);
+        assert!(text.contains(&format!(" first places [0, {zeros}]\n  of 104 bytes, 96 came;")), "{text}");
         let request = Request::Decode { code: 1, word: vec![], out: vec![5; 3] };
         let expected = answered(request.clone(), &mut Tally::default());
         let mut got = expected.clone();

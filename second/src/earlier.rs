@@ -183,7 +183,9 @@ impl Frame {
 
     /// In the order of `COMPARED`, from the points that the program sent and its replies to `receives`.
     fn outcomes(&self, sent: &Sent, received: &[Reply]) -> [Outcome; 4] {
-        let accepted = Ok(Counts { mended: self.hits.len() as u64, protected: 0, places: self.places });
+        let mended = self.hits.len() as u64;
+        // Both halves are hit alike.
+        let accepted = Ok(Counts { mended, worst: mended / 2, places: self.places, ..Counts::default() });
         let here = |rule| sent.clone().map(|points| self.received(rule, &points));
         let there = |number: usize| received[number].clone();
         [
@@ -291,6 +293,17 @@ mod tests {
         assert_eq!(counts(program(lax)), (55, 5));
         let uncounted = |request: &mut Request| request.call().map(|_| Counts::default());
         assert_eq!(counts(program(uncounted)), (55, 5));
+    }
+
+    #[test]
+    fn receivers_that_answer_another_worst_fail() {
+        let answering = |worst: fn(Counts) -> u64| {
+            program(move |request: &mut Request| request.call().map(|counts| Counts { worst: worst(counts), ..counts }))
+        };
+        assert_eq!(counts(answering(|counts| counts.mended / 2)), (60, 0));
+        assert_eq!(counts(answering(|counts| counts.mended)), (55, 5));
+        assert_eq!(counts(answering(|_| 0)), (55, 5));
+        assert_eq!(counts(answering(|_| 16)), (50, 10));
     }
 
     #[test]

@@ -104,9 +104,11 @@ fn place(rng: &mut Rng, count: usize) -> usize {
 #[cfg(test)]
 mod tests {
     use super::*;
+    use crate::again::blocks;
     use crate::answer::NUMBERS;
     use crate::stray::{Kind, Legal};
     use crate::tally::{protected::RESTS, Tally};
+    use std::collections::BTreeMap;
 
     #[test]
     fn the_same_seed_gives_the_same_requests() {
@@ -180,6 +182,63 @@ mod tests {
             assert_eq!(lists.len(), from.0 as usize / 2);
             assert!(lists.iter().all(|list| list.first > 0 && list.last > 0), "{from:?}");
         }
+    }
+
+    /// The jobs and modes that have blocks, and how many bits of a block are mended.
+    const WITH_BLOCKS: [((u8, u8), u64); 3] = [((4, 1), 16), ((6, 1), 4), ((6, 2), 8)];
+
+    /// Holds the worst blocks to stand at least so often in each place.
+    fn worst_stand_everywhere(tally: &Tally, least: u64) {
+        for (from, _) in WITH_BLOCKS {
+            let worst = &tally.reached[&from].worst;
+            assert!([worst.first, worst.last, worst.several].iter().all(|&count| count >= least), "{from:?}{worst}");
+            // Payload A has but two halves.
+            assert!(if from.0 == 4 { worst.middle == 0 } else { worst.middle >= least }, "{from:?}{worst}");
+        }
+    }
+
+    #[test]
+    fn the_worst_block_stands_everywhere_and_has_every_count() {
+        worst_stand_everywhere(&Tally::of(1, 1_500, &[1, 2, 3, 4, 5, 6]), 3);
+        let tally = Tally::of(1, 5_000, &[4, 6]);
+        worst_stand_everywhere(&tally, 20);
+        for (from, t) in WITH_BLOCKS {
+            assert_eq!(tally.reached[&from].worst.counts, (0..=t).collect());
+        }
+    }
+
+    /// What a receiver may answer in the place of the worst: its name, and its value from the counts of the blocks.
+    type Wrong = (&'static str, fn(&[u64]) -> u64);
+
+    const WRONG_WORSTS: [Wrong; 8] = [
+        ("none", |_| 0),
+        ("the first block's", |blocks| blocks[0]),
+        ("the last block's", |blocks| blocks[blocks.len() - 1]),
+        ("the last's that was hit", |blocks| blocks.iter().rev().find(|&&count| count > 0).map_or(0, |&count| count)),
+        ("the least", |blocks| blocks.iter().min().map_or(0, |&count| count)),
+        ("the mean", |blocks| blocks.iter().sum::<u64>().div_ceil(blocks.len() as u64)),
+        ("the total", |blocks| blocks.iter().sum()),
+        ("how many blocks were hit", |blocks| blocks.iter().filter(|&&count| count > 0).count() as u64),
+    ];
+
+    #[test]
+    fn every_wrong_worst_shows_among_the_committed_requests() {
+        let mut shown: BTreeMap<((u8, u8), &str), u64> = BTreeMap::new();
+        for index in 0..1_500 {
+            let mut request = request(1, index, &[1, 2, 3, 4, 5, 6]);
+            let Ok(counts) = request.call() else {
+                continue;
+            };
+            let (from, blocks) = ((request.job(), request.code_or_mode()), blocks(&request));
+            if blocks.is_empty() {
+                continue;
+            }
+            for (name, wrong) in WRONG_WORSTS {
+                *shown.entry((from, name)).or_default() += (wrong(&blocks) != counts.worst) as u64;
+            }
+        }
+        assert_eq!(shown.len(), WITH_BLOCKS.len() * WRONG_WORSTS.len());
+        assert!(shown.values().all(|&count| count >= 5), "{shown:?}");
     }
 
     /// The fewest bursts of a row of `RESTS` in which this number of protected bits differed.

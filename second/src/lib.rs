@@ -1,18 +1,20 @@
 //! The independent second program of Ortkaveq: HiNoC payload coding (ITU-T J.195.2, as document 01 reads it, with the
-//! refusal of noise of request 3, the frame check of request 6 and the mended places of request 10) written a second
-//! time, in another language and by other methods than the proved crates, so that the two can be compared.
+//! refusal of noise of request 3, the frame check of request 6, the worst block's count of request 8 and the mended
+//! places of request 10) written a second time, in another language and by other methods than the proved crates, so
+//! that the two can be compared.
 //!
 //! In the order data flows:
 //!
 //! | module | idea |
 //! |---|---|
-//! | `answer` | the refusal numbers of document 01 and request 3, and places; lists of mended places |
+//! | `answer` | the refusal numbers of document 01 and request 3, and places; total and worst; lists of mended places |
 //! | `field`, `logs` | GF(512) by carry-less multiplication; products by logarithms built from it at start-up |
 //! | `poly`, `bch` | division of bit vectors; the three codes, decoded by Peterson's linear equations |
 //! | `points`, `dqpsk`, `grid` | Annex B as printed and its repairs; Table 1; equation 4 |
 //! | `bits`, `scrambler`, `check` | most significant bit first; clause 6.2; clause 7.4.2, by the rule of request 6 or another |
 //! | `payload_a`, `payload_b` | the two payloads, both directions |
 //! | `trial` | the request and response format of the trial program |
+//! | `again` | total and worst as request 8 defines them: by sending again |
 //! | `rng`, `hostile` | requests from a seed, most of them meant to break something |
 //! | `stray` | kinds of stray points, most of them near the legal ones |
 //! | `largest` | the largest frames of Payload B, and one byte or block more |
@@ -20,6 +22,7 @@
 //! | `earlier` | driving another program across the two rules of the frame check |
 //! | `astray` | words with more than t hits that are mended into a codeword that was not sent |
 
+pub mod again;
 pub mod answer;
 pub mod astray;
 pub mod bch;

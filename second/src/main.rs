@@ -13,7 +13,7 @@ second compare SEED COUNT [JOBS] -- COMMAND..   drives a trial program, prints d
 second largest SEED -- COMMAND..                drives a trial program with the largest frames of Payload B, and one byte or block more
 second earlier SEED COUNT -- COMMAND..          drives a trial program against the earlier rule of the frame check: each must refuse what the other sends, clean and mended; 'N passed, M failed'
 second one SEED INDEX [JOBS]                    writes the single request of this index
-second tally SEED COUNT [JOBS]                  counts the refusal numbers of each job, their places, what came as far as the decoder, lists of mended places, protected bits that differed, and kinds of stray points
+second tally SEED COUNT [JOBS]                  counts the refusal numbers of each job, their places, what came as far as the decoder, worst blocks, lists of mended places, protected bits that differed, and kinds of stray points
 second astray SEED COUNT [CODES]                counts words with more than t hits that are refused, and that are mended into another codeword
 second numbers                                  checks document 01's numbers, the frame check's by request 6
 second field                                    writes all products and inverses of GF(512)

@@ -101,7 +101,7 @@ fn flips() -> Vec<Line> {
             let sent = code.encoded(&rng.bits(code.k));
             let (answer, out, flipped) = decoded_with_flips(&mut rng, number, &sent, code.t);
             let places = [listed(&flipped), listed(&[])];
-            back &= answer == Ok(Counts { mended: code.t as u64, protected: 0, places }) && out == sent;
+            back &= answer == Ok(Counts { mended: code.t as u64, places, ..Counts::default() }) && out == sent;
             let (answer, out, _) = decoded_with_flips(&mut rng, number, &sent, code.t + 1);
             never &= answer.is_err() || out != sent;
         }

@@ -59,13 +59,13 @@ pub fn receive_by(rule: Rule, mode: u8, i: &[i16], q: &[i16], area: &mut [u8]) -
     check(i.len() >= POINTS && q.len() >= POINTS && area.len() >= length, Refusal::NoRoom)?;
     let (received, protected) = without_fields(&framed(i, q)?);
     check(protected <= MOST_DIFFERING, Refusal::Noise)?;
-    let (information, [first, second]) = decoded(mode, &received)?;
+    let (information, halves) = decoded(mode, &received)?;
     let plain = scrambler::scrambled(&information);
     let (message, sum) = plain.split_at(8 * length);
     check(frame_check::of_by(rule, message) == sum, Refusal::WrongCheck)?;
     area[..length].copy_from_slice(&bits::to_bytes(message));
-    let mended = (first.len() + second.len()) as u64;
-    Ok(Counts { mended, protected, places: [listed(&first), listed(&second)] })
+    let places = [listed(&halves[0]), listed(&halves[1])];
+    Ok(Counts { protected, places, ..Counts::of_blocks(&halves) })
 }
 
 /// The frame's bits and their check (clause 7.4.2).
@@ -211,8 +211,8 @@ pub(crate) mod tests {
                     places.sort();
                     let second_half: Vec<usize> = places[first..].iter().map(|p| p - 392).collect();
                     let lists = [listed(&places[..first]), listed(&second_half)];
-                    let counts = Counts { mended: (first + second) as u64, protected: 5, places: lists };
-                    assert_eq!(answer, Ok(counts));
+                    let (mended, worst) = ((first + second) as u64, first.max(second) as u64);
+                    assert_eq!(answer, Ok(Counts { mended, protected: 5, worst, places: lists }));
                     assert_eq!(area, frame);
                 } else {
                     assert_eq!(answer, Err(Refusal::Hopeless(if first > 16 { 0 } else { 1 })));
@@ -253,11 +253,30 @@ pub(crate) mod tests {
     }
 
     #[test]
-    fn uncoded_frames_have_no_places() {
+    fn the_worst_half_is_counted_whichever_it_is() {
+        let mut rng = Rng::new(11);
+        let first = [(1, 0), (16, 0), (16, 15), (9, 4), (2, 1)];
+        let second = [(0, 1), (0, 16), (15, 16), (4, 9), (1, 2)];
+        let both = [(0, 0), (1, 1), (7, 7), (16, 16)];
+        for (one, two) in [&first[..], &second, &both].concat() {
+            let mut places = rng.distinct(one, 392);
+            places.extend(rng.distinct(two, 392).iter().map(|p| p + 392));
+            // Protected bits count in neither half.
+            for differing in [0, 12] {
+                let (i, q) = hit(1, &with_check(&[7; 58]), &places, &field_places()[..differing]);
+                let counts = receive(1, &i, &q, &mut [0; 58]).unwrap();
+                assert_eq!((counts.mended, counts.protected), ((one + two) as u64, differing as u64));
+                assert_eq!(counts.worst, if one > two { one } else { two } as u64, "{one} and {two}");
+            }
+        }
+    }
+
+    #[test]
+    fn uncoded_frames_have_no_places_and_neither_total_nor_worst() {
         let frame = [8; 94];
         let (i, q) = hit(0, &with_check(&frame), &[], &[0, 206, 839]);
         let mut area = vec![1; 94];
-        let counts = Counts { mended: 0, protected: 3, places: [[0; 16]; 2] };
+        let counts = Counts { protected: 3, ..Counts::default() };
         assert_eq!(receive(0, &i, &q, &mut area), Ok(counts));
         assert_eq!(area, frame);
     }

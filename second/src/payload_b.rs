@@ -75,9 +75,9 @@ pub fn receive(mode: u8, length: u64, scheme: &[u8], i: &[i16], q: &[i16], area:
     let received = unmapped(plan.symbols, scheme, i, q)?;
     let area = &mut area[..plan.length];
     // Number 9 alone leaves something behind: the frame's bytes, all zero.
-    let (information, mended) = plan.decoded(&received[..plan.coded_bits]).inspect_err(|_| area.fill(0))?;
+    let (information, blocks) = plan.decoded(&received[..plan.coded_bits]).inspect_err(|_| area.fill(0))?;
     area.copy_from_slice(&bits::to_bytes(&scrambler::scrambled(&information)));
-    Ok(Counts { mended, ..Counts::default() })
+    Ok(Counts::of_blocks(&blocks))
 }
 
 impl Plan {
@@ -86,13 +86,9 @@ impl Plan {
         self.code.map_or(information.to_vec(), |code| code.encoded_blocks(information))
     }
 
-    /// The scrambled bits again, and how many were mended in all blocks.
-    fn decoded(&self, received: &[u8]) -> Result<(Vec<u8>, u64), Refusal> {
-        let Some(code) = self.code else {
-            return Ok((received.to_vec(), 0));
-        };
-        let (information, blocks) = code.mended_blocks(received)?;
-        Ok((information, blocks.iter().map(|places| places.len() as u64).sum()))
+    /// The scrambled bits again, and the mended places of each block; mode 0 has no blocks.
+    fn decoded(&self, received: &[u8]) -> Result<(Vec<u8>, Vec<Vec<usize>>), Refusal> {
+        self.code.map_or(Ok((received.to_vec(), vec![])), |code| code.mended_blocks(received))
     }
 }
 
@@ -113,7 +109,7 @@ pub fn mapped(sent: &[u8], scheme: &[u8]) -> Vec<Point> {
 }
 
 /// Check 8, and the bits of all points in s order.
-fn unmapped(symbols: usize, scheme: &[u8], i: &[i16], q: &[i16]) -> Result<Vec<u8>, Refusal> {
+pub fn unmapped(symbols: usize, scheme: &[u8], i: &[i16], q: &[i16]) -> Result<Vec<u8>, Refusal> {
     let mut received = Vec::new();
     for ((index, point), &count) in grid::read(symbols, i, q).zip(scheme.iter().cycle()) {
         let label = constellation(count).expect("2 to 10 bits").label(point).ok_or(Refusal::Stray(index))?;
@@ -123,7 +119,7 @@ fn unmapped(symbols: usize, scheme: &[u8], i: &[i16], q: &[i16]) -> Result<Vec<u
 }
 
 #[cfg(test)]
-mod tests {
+pub(crate) mod tests {
     use super::*;
     use crate::rng::Rng;
 
@@ -187,23 +183,110 @@ mod tests {
         rng.bytes(blocks * block_bytes(mode))
     }
 
+    /// The points of a frame, hit in these places of its symbols' bits: the coded bits, and behind them the fill.
+    pub(crate) fn hit(mode: u8, frame: &[u8], scheme: &[u8], places: &[usize]) -> (Vec<i16>, Vec<i16>) {
+        let plan = plan(mode, frame.len() as u64, scheme).unwrap();
+        let mut sent = plan.coded(&scrambler::scrambled(&bits::of_bytes(frame)));
+        sent.resize(plan.symbols * plan.symbol_bits, 0);
+        places.iter().for_each(|&p| sent[p] ^= 1);
+        let (mut i, mut q) = grids(plan.symbols);
+        grid::write(&mapped(&sent, scheme), &mut i, &mut q);
+        (i, q)
+    }
+
+    /// Places of so many hits in each block.
+    pub(crate) fn in_blocks(rng: &mut Rng, mode: u8, hits: &[usize]) -> Vec<usize> {
+        let n = bch::code(mode).unwrap().n;
+        let of_block = |(block, &count)| rng.distinct(count, n).into_iter().map(move |place| block * n + place);
+        hits.iter().enumerate().flat_map(of_block).collect()
+    }
+
+    /// Where the fill of a frame stands.
+    pub(crate) fn fill(mode: u8, frame: &[u8], scheme: &[u8]) -> std::ops::Range<usize> {
+        let plan = plan(mode, frame.len() as u64, scheme).unwrap();
+        plan.coded_bits..plan.symbols * plan.symbol_bits
+    }
+
+    /// Total and worst of a frame hit in these places, which is accepted and comes back.
+    fn total_and_worst(mode: u8, frame: &[u8], scheme: &[u8], places: &[usize]) -> (u64, u64) {
+        let (i, q) = hit(mode, frame, scheme, places);
+        let mut area = vec![8; frame.len()];
+        let counts = receive(mode, frame.len() as u64, scheme, &i, &q, &mut area).unwrap();
+        assert_eq!(area, frame);
+        assert_eq!(counts, Counts { mended: counts.mended, worst: counts.worst, ..Counts::default() });
+        (counts.mended, counts.worst)
+    }
+
+    #[test]
+    fn the_worst_block_is_counted_wherever_it_stands() {
+        let mut rng = Rng::new(14);
+        // The first, a middle one, the last; the only one that is hit; two, all, none.
+        let alone = [([4, 1, 0, 3, 2], 4), ([1, 2, 4, 0, 3], 4), ([3, 0, 2, 1, 4], 4), ([0, 0, 1, 0, 0], 1)];
+        let ties = [([0, 3, 1, 3, 2], 3), ([2; 5], 2), ([0; 5], 0)];
+        let cases = alone.into_iter().chain(ties);
+        for (mode, (hits, worst)) in cases.flat_map(|case| [(1, case), (2, case)]) {
+            let frame = rng.bytes(5 * block_bytes(mode));
+            let places = in_blocks(&mut rng, mode, &hits);
+            let counted = total_and_worst(mode, &frame, &[5; 210], &places);
+            assert_eq!(counted, (places.len() as u64, worst), "mode {mode}, {hits:?}");
+        }
+        // As many as a block can have, in the middle of many blocks.
+        for (mode, t) in [(1, 4), (2, 8)] {
+            let frame = rng.bytes(40 * block_bytes(mode));
+            let mut hits = vec![t - 1; 40];
+            (hits[0], hits[17], hits[39]) = (0, t, 1);
+            let places = in_blocks(&mut rng, mode, &hits);
+            let wanted = (places.len() as u64, t as u64);
+            assert_eq!(total_and_worst(mode, &frame, &[9; 210], &places), wanted);
+        }
+    }
+
+    #[test]
+    fn hits_in_the_fill_do_not_count() {
+        let mut rng = Rng::new(15);
+        for (mode, hits) in [(1, [0, 0, 0]), (1, [1, 4, 2]), (2, [0, 0, 0]), (2, [3, 0, 1]), (2, [0, 1, 8])] {
+            let frame = rng.bytes(3 * block_bytes(mode));
+            let scheme: Vec<u8> = (0..210).map(|_| rng.between(2, 10) as u8).collect();
+            let fill = fill(mode, &frame, &scheme);
+            let places = in_blocks(&mut rng, mode, &hits);
+            let counted = (places.len() as u64, hits.into_iter().max().unwrap() as u64);
+            // The fill's first bit, its last, and all of it.
+            let (begin, end) = (fill.start, fill.end);
+            for spoilt in [begin..begin + 1, end - 1..end, begin..end] {
+                let both: Vec<usize> = places.iter().copied().chain(spoilt).collect();
+                assert_eq!(total_and_worst(mode, &frame, &scheme, &both), counted);
+            }
+        }
+    }
+
+    #[test]
+    fn uncoded_frames_have_neither_total_nor_worst() {
+        let (frame, scheme) = ([6; 200], [3; 210]);
+        assert_eq!(total_and_worst(0, &frame, &scheme, &fill(0, &frame, &scheme).collect::<Vec<_>>()), (0, 0));
+        // Hits make another frame of it, sent as it came.
+        let (i, q) = hit(0, &frame, &scheme, &[0, 7, 8, 1_599]);
+        let mut area = [8; 200];
+        assert_eq!(receive(0, 200, &scheme, &i, &q, &mut area), Ok(Counts::default()));
+        assert_eq!((area[0], area[1], area[199], &area[2..199]), (6 ^ 0x81, 6 ^ 0x80, 7, &frame[2..199]));
+    }
+
     #[test]
     fn a_hopeless_block_zeroes_the_frame_and_no_more() {
         let mut rng = Rng::new(13);
         for mode in [1, 2] {
             let frame = rng.bytes(4 * block_bytes(mode));
-            let plan = plan(mode, frame.len() as u64, &[6; 210]).unwrap();
-            let code = plan.code.unwrap();
+            let code = bch::code(mode).unwrap();
             for (block, flips) in [(0, code.t), (3, code.t), (0, code.t + 1), (2, code.t + 1), (3, code.t + 1)] {
-                let mut sent = plan.coded(&scrambler::scrambled(&bits::of_bytes(&frame)));
-                rng.distinct(flips, code.n).iter().for_each(|p| sent[block * code.n + p] ^= 1);
-                sent.resize(plan.symbols * plan.symbol_bits, 1);
-                let (mut i, mut q) = grids(plan.symbols);
-                grid::write(&mapped(&sent, &[6; 210]), &mut i, &mut q);
+                let mut hits = [0; 4];
+                hits[block] = flips;
+                let mut places = in_blocks(&mut rng, mode, &hits);
+                places.extend(fill(mode, &frame, &[6; 210]));
+                let (i, q) = hit(mode, &frame, &[6; 210], &places);
                 let mut area = vec![8; frame.len() + 3];
                 let answer = receive(mode, frame.len() as u64, &[6; 210], &i, &q, &mut area);
                 if flips <= code.t {
-                    assert_eq!(answer, Ok(Counts { mended: flips as u64, ..Counts::default() }));
+                    let (mended, worst) = (flips as u64, flips as u64);
+                    assert_eq!(answer, Ok(Counts { mended, worst, ..Counts::default() }));
                     assert_eq!(area[..frame.len()], frame);
                 } else {
                     assert_eq!(answer, Err(Refusal::Hopeless(block)));

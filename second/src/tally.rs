@@ -1,19 +1,21 @@
 //! What the requests of a seed bring up: each refusal number of each job and its places; of the words, bursts and
-//! frames that came as far as the decoder, by code or mode, how many, which counts, and which lists of mended places;
-//! the protected bits that differed; and the kinds of stray points.
+//! frames that came as far as the decoder, by code or mode, how many, which counts, which blocks were the worst, and
+//! which lists of mended places; the protected bits that differed; and the kinds of stray points.
 
 mod lists;
 pub mod protected;
 mod strays;
+mod worst;
 
 use crate::answer::{Answer, Refusal, NUMBERS};
-use crate::hostile;
 use crate::trial::{Request, JOBS};
+use crate::{again, hostile};
 use lists::Lists;
 use protected::Protected;
 use std::collections::{BTreeMap, BTreeSet};
 use std::fmt;
 use strays::Strays;
+use worst::Worst;
 
 #[derive(Default)]
 pub struct Tally {
@@ -34,6 +36,7 @@ pub struct Reached {
     /// Counts of accepted answers.
     pub mended: BTreeSet<u64>,
     pub protected: BTreeSet<u64>,
+    pub worst: Worst,
     /// Lists of accepted answers.
     pub lists: Lists,
 }
@@ -41,7 +44,8 @@ pub struct Reached {
 impl Reached {
     /// Nothing yet, of a job in this code or mode.
     fn of(job: u8, choice: u8) -> Reached {
-        Reached { calls: 0, mended: BTreeSet::new(), protected: BTreeSet::new(), lists: Lists::of(job, choice) }
+        let lists = Lists::of(job, choice);
+        Reached { calls: 0, mended: BTreeSet::new(), protected: BTreeSet::new(), worst: Worst::default(), lists }
     }
 }
 
@@ -70,6 +74,7 @@ impl Tally {
             if let Ok(counts) = answer {
                 reached.mended.insert(counts.mended);
                 reached.protected.insert(counts.protected);
+                reached.worst.add(counts.worst, &again::blocks(request));
                 reached.lists.add(counts);
             }
         }
@@ -110,6 +115,9 @@ impl fmt::Display for Tally {
             )?;
             if *job == 4 {
                 write!(f, "; protected {}", Runs(&reached.protected))?;
+            }
+            if *job != 2 {
+                write!(f, "{}", reached.worst)?;
             }
             write!(f, "{}", reached.lists)?;
         }

@@ -4,7 +4,7 @@
 //! mended places are always 16 entries of two bytes, with no count. An unknown job, a list too long for its buffer or a
 //! cut request ends the run after the responses so far.
 
-use crate::answer::Answer;
+use crate::answer::{Answer, Counts};
 use crate::{bch, payload_a, payload_b};
 use std::io::{self, Read, Write};
 
@@ -25,6 +25,13 @@ pub enum Request {
     ReceiveB { mode: u8, length: u64, scheme: Vec<u8>, i: Vec<i16>, q: Vec<i16>, area: Vec<u8> },
 }
 
+/// A count of an answer: its name, and its value.
+pub type Count = (&'static str, fn(&Counts) -> u64);
+
+const MENDED: Count = ("mended", |counts| counts.mended);
+const PROTECTED: Count = ("protected", |counts| counts.protected);
+const WORST: Count = ("worst", |counts| counts.worst);
+
 /// The names of jobs 1 to 6.
 pub const JOBS: [&str; 6] = ["encode", "decode", "send A", "receive A", "send B", "receive B"];
 
@@ -38,6 +45,16 @@ impl Request {
             Request::ReceiveA { .. } => 4,
             Request::SendB { .. } => 5,
             Request::ReceiveB { .. } => 6,
+        }
+    }
+
+    /// The counts that its response has after number and place, in their order.
+    pub fn counts(&self) -> &'static [Count] {
+        match self {
+            Request::Decode { .. } => &[MENDED],
+            Request::ReceiveA { .. } => &[MENDED, PROTECTED, WORST],
+            Request::ReceiveB { .. } => &[MENDED, WORST],
+            _ => &[],
         }
     }
 
@@ -125,11 +142,8 @@ pub fn response(after: &Request, answer: Answer) -> Vec<u8> {
     };
     let mut to = vec![number];
     to.extend(place.to_le_bytes());
-    if matches!(after.job(), 2 | 4 | 6) {
-        to.extend(counts.mended.to_le_bytes());
-    }
-    if after.job() == 4 {
-        to.extend(counts.protected.to_le_bytes());
+    for (_, value) in after.counts() {
+        to.extend(value(&counts).to_le_bytes());
     }
     for place in counts.places[..after.lists_of_places()].iter().flatten() {
         to.extend(place.to_le_bytes());
@@ -221,6 +235,7 @@ fn put_levels(to: &mut Vec<u8>, list: &[i16]) {
 mod tests {
     use super::*;
     use payload_a::tests::hit;
+    use payload_b::tests::hit as hit_b;
 
     fn ran(input: &[u8]) -> Vec<u8> {
         let mut output = Vec::new();
@@ -263,11 +278,46 @@ mod tests {
         let request = receive_a(&payload_a::with_check(&[6; 58]), &places, &[0, 839]);
         let head = [0, /* place */ 0, 0, 0, 0, 0, 0, 0, 0];
         let mended_and_protected = [5, 0, 0, 0, 0, 0, 0, 0, 2, 0, 0, 0, 0, 0, 0, 0];
+        let worst = [3, 0, 0, 0, 0, 0, 0, 0];
         let first = [&[0, 0, 44, 1][..], &[0; 2 * 14]].concat();
         let second = [&[1, 0, 2, 1, 135, 1][..], &[0; 2 * 13]].concat();
         let lists = [first, second].concat();
-        let response = [&head[..], &mended_and_protected, &lists, &[60, 0, 0, 0], &[6; 58], &[9, 9]].concat();
+        let response = [&head[..], &mended_and_protected, &worst, &lists, &[60, 0, 0, 0], &[6; 58], &[9, 9]].concat();
         assert_eq!(ran(&request.to_bytes()), response);
+    }
+
+    /// To receive a frame of three blocks of 59 bytes, hit in these places of its 1,524 coded bits and 156 of fill.
+    fn receive_b(places: &[usize]) -> Request {
+        let (i, q) = hit_b(1, &[6; 177], &[2; 210], places);
+        Request::ReceiveB { mode: 1, length: 177, scheme: vec![2; 210], i, q, area: vec![9; 179] }
+    }
+
+    #[test]
+    fn bytes_of_a_receive_b_with_hits_by_hand() {
+        // One hit in the first block, three in the second, two in the third, and five in the fill.
+        let places = [7, 508, 700, 1015, 1016, 1523, 1524, 1525, 1526, 1600, 1679];
+        let head = [0, /* place */ 0, 0, 0, 0, 0, 0, 0, 0];
+        let mended_and_worst = [6, 0, 0, 0, 0, 0, 0, 0, 3, 0, 0, 0, 0, 0, 0, 0];
+        let response = [&head[..], &mended_and_worst, &[179, 0, 0, 0], &[6; 177], &[9, 9]].concat();
+        assert_eq!(ran(&receive_b(&places).to_bytes()), response);
+    }
+
+    #[test]
+    fn refusals_carry_neither_total_nor_worst() {
+        // Two hits in the first block, five in the second.
+        let response = [&[9, 1][..], &[0; 7], &[0; 16], &[179, 0, 0, 0], &[0; 177], &[9, 9]].concat();
+        assert_eq!(ran(&receive_b(&[0, 507, 508, 509, 510, 511, 512]).to_bytes()), response);
+        // Whatever they are refused for.
+        let mut numbers = std::collections::BTreeSet::new();
+        for index in 0..1_000 {
+            let request = crate::hostile::request(6, index, &[4, 6]);
+            let response = ran(&request.to_bytes());
+            if response[0] != 0 {
+                numbers.insert(response[0]);
+                assert_eq!(response[9..9 + 8 * request.counts().len()], vec![0; 8 * request.counts().len()]);
+            }
+        }
+        assert_eq!(numbers, [1, 2, 3, 5, 6, 7, 8, 9, 10, 11].into());
     }
 
     #[test]
@@ -289,7 +339,7 @@ mod tests {
             (receive_a(&wrong, &mended, &fields[..12]), 10, 0),
             (receive_a(&right, &mended, &fields[..13]), 11, 0),
         ] {
-            let response = [&[number, place][..], &[0; 7], &[0; 16], &[0; 64], &[60, 0, 0, 0], &[9; 60]].concat();
+            let response = [&[number, place][..], &[0; 7], &[0; 24], &[0; 64], &[60, 0, 0, 0], &[9; 60]].concat();
             assert_eq!(ran(&request.to_bytes()), response);
         }
     }
@@ -297,9 +347,9 @@ mod tests {
     #[test]
     fn responses_of_a_receive_carry_its_counts() {
         let request = Request::ReceiveA { mode: 5, i: vec![], q: vec![-2], area: vec![4] };
-        assert_eq!(ran(&request.to_bytes()), [[1].as_slice(), &[0; 24], &[0; 64], &[1, 0, 0, 0, 4]].concat());
+        assert_eq!(ran(&request.to_bytes()), [[1].as_slice(), &[0; 32], &[0; 64], &[1, 0, 0, 0, 4]].concat());
         let request = Request::ReceiveB { mode: 0, length: 0, scheme: vec![], i: vec![], q: vec![], area: vec![4] };
-        assert_eq!(ran(&request.to_bytes()), [[2].as_slice(), &[0; 16], &[1, 0, 0, 0, 4]].concat());
+        assert_eq!(ran(&request.to_bytes()), [[2].as_slice(), &[0; 24], &[1, 0, 0, 0, 4]].concat());
         let request = Request::SendA { mode: 1, frame: vec![], i: vec![-2], q: vec![] };
         assert_eq!(ran(&request.to_bytes()), [[2].as_slice(), &[0; 8], &[1, 0, 0, 0, 254, 255, 0, 0, 0, 0]].concat());
     }

@@ -65,12 +65,14 @@ impl Longest {
     /// Receiving it, each block with so many hits: all are mended.
     fn received(self, hits: usize) -> Row {
         let hit = if hits > 0 { format!(", {hits} hits in each block") } else { ", clean".to_string() };
-        self.row("receive", &hit, RECEIVE_B, self.blocks() * hits, |rng| self.points(rng, hits))
+        self.row("receive", &hit, RECEIVE_B, hits, |rng| self.points(rng, hits))
     }
 
-    fn row(self, job: &str, hit: &str, (ours, theirs): Calls, mended: usize, input: impl Fn(&mut Rng) -> Input) -> Row {
+    /// Each block has so many hits, mended by the call.
+    fn row(self, job: &str, hit: &str, (ours, theirs): Calls, hits: usize, input: impl Fn(&mut Rng) -> Input) -> Row {
         let mut rng = Rng::new(5);
         let plural = if self.symbols > 1 { "s" } else { "" };
+        let (mended, worst) = ((self.blocks() * hits) as u64, hits as u64);
         Row {
             of: format!("Payload B, mode {}, {}", self.mode, self.scheme.0),
             name: format!("{job}, {} symbol{plural}, {} bytes{hit}", self.symbols, self.bytes()),
@@ -78,7 +80,7 @@ impl Longest {
             theirs,
             inputs: (0..SYMBOLS / self.symbols).map(|_| input(&mut rng)).collect(),
             group: (GROUP / self.symbols).max(1),
-            told: Some(Answer { mended: mended as u64, ..Answer::default() }),
+            told: Some(Answer { mended, worst, ..Answer::default() }),
         }
     }
 

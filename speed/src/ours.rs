@@ -3,7 +3,7 @@
 
 use crate::rows::{Answer, Input, Memory};
 
-/// What every call but two answers.
+/// What encode, decode and send answer.
 #[repr(C)]
 struct Told {
     number: u32,
@@ -11,12 +11,13 @@ struct Told {
     place: u64,
 }
 
-/// What ortkaveq_receive_a answers.
+/// What receive answers.
 #[repr(C)]
 struct ReceivedTold {
-    number: u32,
+    number: u16,
     mended: u16,
     protected: u16,
+    worst: u16,
     place: u64,
 }
 
@@ -73,7 +74,7 @@ extern "C" {
         q_length: usize,
         area: *mut u8,
         room: usize,
-    ) -> Told;
+    ) -> ReceivedTold;
     fn ortkaveq_symbols_b(mode: u8, size: usize, scheme: *const u8, entries: usize) -> NeededTold;
 }
 
@@ -120,7 +121,7 @@ pub fn receive_a(input: &Input, memory: &mut Memory) -> Answer {
             second.as_mut_ptr(),
         )
     };
-    Answer { protected: r.protected.into(), places: [first, second], ..answer(r.number, r.mended.into(), r.place) }
+    Answer { places: [first, second], ..received(r) }
 }
 
 pub fn send_b(input: &Input, memory: &mut Memory) -> Answer {
@@ -142,7 +143,7 @@ pub fn send_b(input: &Input, memory: &mut Memory) -> Answer {
 
 pub fn receive_b(input: &Input, memory: &mut Memory) -> Answer {
     let (scheme, i, q, area) = (&input.scheme, &input.i, &input.q, &mut memory.bytes);
-    told(unsafe {
+    received(unsafe {
         ortkaveq_receive_b(
             input.number,
             input.size,
@@ -166,6 +167,11 @@ pub fn symbols_b(input: &Input, _: &mut Memory) -> Answer {
 
 fn told(r: Told) -> Answer {
     answer(r.number, r.mended.into(), r.place)
+}
+
+fn received(r: ReceivedTold) -> Answer {
+    let (protected, worst) = (r.protected.into(), r.worst.into());
+    Answer { protected, worst, ..answer(r.number.into(), r.mended.into(), r.place) }
 }
 
 fn answer(number: u32, mended: u64, place: u64) -> Answer {

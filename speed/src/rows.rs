@@ -50,6 +50,7 @@ pub struct Answer {
     pub number: u32,
     pub mended: u64,
     pub protected: u64,
+    pub worst: u64,
     pub symbols: u64,
     pub place: u64,
     pub places: [[u16; 16]; 2],

@@ -38,7 +38,9 @@ pub fn symbols_b(input: &Input, _: &mut Memory) -> Answer {
 
 fn told(answer: answer::Answer) -> Answer {
     match answer {
-        Ok(Counts { mended, protected, places }) => Answer { mended, protected, places, ..Answer::default() },
+        Ok(Counts { mended, protected, worst, places }) => {
+            Answer { mended, protected, worst, places, ..Answer::default() }
+        }
         Err(refusal) => refused(refusal),
     }
 }

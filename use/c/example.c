@@ -60,13 +60,14 @@ static int named(int half, const uint16_t *places)
 }
 
 /* Receives into an area and says what came. 1 if the answer is the one expected, no field is hit, and the places are those of hit, or in a refusal all 0. */
-static int received(const int16_t *i, const int16_t *q, uint8_t *area, unsigned number, unsigned place, unsigned mended)
+static int received(const int16_t *i, const int16_t *q, uint8_t *area, unsigned number, unsigned place, unsigned mended, unsigned worst)
 {
     static const uint16_t none[ORTKAVEQ_PLACES] = {0};
     uint16_t first[ORTKAVEQ_PLACES], second[ORTKAVEQ_PLACES];
-    struct ortkaveq_answer_a a = ortkaveq_receive_a(CODED, i, LEVELS, q, LEVELS, area, SIZE, first, second);
-    int good = a.number == number && a.place == place && a.mended == mended && a.fields == 0;
-    printf("received: number %u, place %lu, mended %u, fields %u\n", (unsigned)a.number, (unsigned long)a.place, (unsigned)a.mended, (unsigned)a.fields);
+    struct ortkaveq_received a = ortkaveq_receive_a(CODED, i, LEVELS, q, LEVELS, area, SIZE, first, second);
+    int good = a.number == number && a.place == place && a.mended == mended && a.worst == worst && a.fields == 0;
+    printf("received: number %u, place %lu, mended %u, worst %u, fields %u\n", (unsigned)a.number, (unsigned long)a.place, (unsigned)a.mended,
+           (unsigned)a.worst, (unsigned)a.fields);
     if (a.number == ORTKAVEQ_ACCEPTED) {
         good &= named(1, first);
         good &= named(2, second);
@@ -93,11 +94,11 @@ int main(int count, char **words)
     puts("\n16 hits in each half");
     hit(i, q);
     memcpy(area, before, SIZE);
-    good &= received(i, q, area, ORTKAVEQ_ACCEPTED, 0, 2 * ORTKAVEQ_T3) && memcmp(area, frame, SIZE) == 0;
+    good &= received(i, q, area, ORTKAVEQ_ACCEPTED, 0, 2 * ORTKAVEQ_T3, ORTKAVEQ_T3) && memcmp(area, frame, SIZE) == 0;
 
     puts("\none hit more in the second half");
     slip(i, q, POINTS + 100);
     memcpy(area, before, SIZE);
-    good &= received(i, q, area, ORTKAVEQ_UNCORRECTABLE, 1, 0) && memcmp(area, before, SIZE) == 0;
+    good &= received(i, q, area, ORTKAVEQ_UNCORRECTABLE, 1, 0, 0) && memcmp(area, before, SIZE) == 0;
     return good ? EXIT_SUCCESS : EXIT_FAILURE;
 }

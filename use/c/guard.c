@@ -182,7 +182,7 @@ static void hit_fields(size_t mode, size_t size, struct told answer)
             REFUSE(ORTKAVEQ_NOISE, 0, run(RECEIVE_A, mode, size));
             continue;
         }
-        EXPECT(answer.number, answer.place, answer.count, answer.number == 0 ? hits : 0, run(RECEIVE_A, mode, size));
+        EXPECT(answer.number, answer.place, answer.count, answer.number == 0 ? hits : 0, answer.worst, run(RECEIVE_A, mode, size));
         if (answer.number == 0)
             HOLD(same(&area, &frame, size));
     }
@@ -192,10 +192,10 @@ static void hit_fields(size_t mode, size_t size, struct told answer)
 static void uncoded_a(size_t size)
 {
     sent(SEND_A, 0, size, LEVELS);
-    hit_fields(0, size, (struct told){0, 0, 0, 0});
+    hit_fields(0, size, (struct told){.number = 0});
     sent(SEND_A, 0, size, LEVELS);
     flip_a(in_half(1, 391));
-    hit_fields(0, size, (struct told){ORTKAVEQ_WRONG_CHECK, 0, 0, 0});
+    hit_fields(0, size, (struct told){.number = ORTKAVEQ_WRONG_CHECK});
 }
 
 /* Where each half is hit: of 16 places the first one's last is 391, the second one's first is 0. */
@@ -211,12 +211,12 @@ static void hit_halves(size_t size, size_t in_first, size_t in_second)
         flip_a(in_half(1, hit_at(1, hit)));
 }
 
-/* So many hits in each half are mended just there, with a protected bit hit between them. */
+/* So many hits in each half are mended just there, with a protected bit hit between them; the worst is the half that has more. */
 static void hits_a(size_t size, size_t in_first, size_t in_second)
 {
     hit_halves(size, in_first, in_second);
     flip_a(415);
-    EXPECT(0, 0, in_first + in_second, 1, run(RECEIVE_A, 1, size));
+    EXPECT(0, 0, in_first + in_second, 1, in_first > in_second ? in_first : in_second, run(RECEIVE_A, 1, size));
     HOLD(same(&area, &frame, size));
     for (size_t n = 0; n < ORTKAVEQ_PLACES; n++) {
         HOLD(first.places[n] == (n < in_first ? hit_at(0, n) : 0));
@@ -250,17 +250,17 @@ static void coded_a(size_t size)
         REFUSE(ORTKAVEQ_UNCORRECTABLE, *half, run(RECEIVE_A, 1, size));
     }
     hit_halves(size, 0, 0);
-    hit_fields(1, size, (struct told){0, 0, 0, 0});
+    hit_fields(1, size, (struct told){.number = 0});
     hit_halves(size, ORTKAVEQ_T3, ORTKAVEQ_T3);
-    hit_fields(1, size, (struct told){0, 0, 2 * ORTKAVEQ_T3, 0});
+    hit_fields(1, size, (struct told){.count = 2 * ORTKAVEQ_T3, .worst = ORTKAVEQ_T3});
     hit_halves(size, ORTKAVEQ_T3, ORTKAVEQ_T3);
     flip_a(in_half(1, 390));
-    hit_fields(1, size, (struct told){ORTKAVEQ_UNCORRECTABLE, 1, 0, 0});
+    hit_fields(1, size, (struct told){.number = ORTKAVEQ_UNCORRECTABLE, .place = 1});
     another_a(size);
-    hit_fields(1, size, (struct told){ORTKAVEQ_WRONG_CHECK, 0, 0, 0});
+    hit_fields(1, size, (struct told){.number = ORTKAVEQ_WRONG_CHECK});
     another_a(size);
     flip_a(in_half(0, 391)), flip_a(in_half(1, 390));
-    hit_fields(1, size, (struct told){ORTKAVEQ_WRONG_CHECK, 0, 0, 0});
+    hit_fields(1, size, (struct told){.number = ORTKAVEQ_WRONG_CHECK});
 }
 
 /* ---- Payload B */
@@ -287,16 +287,26 @@ static void flip_b(size_t bit)
     *level = (int16_t)-*level;
 }
 
-/* Three blocks with t hits each are mended; with one hit more in a block the frame's bytes are zero. */
+/* Three blocks with so many hits each are mended, and the last hit of each frame is in the fill. */
+static void hit_blocks(size_t mode, size_t size, const size_t *hits, size_t worst)
+{
+    sent(SEND_B, mode, size, 4 * ORTKAVEQ_SYMBOL);
+    for (size_t block = 0; block < 3; block++)
+        for (size_t hit = 0; hit < hits[block]; hit++)
+            flip_b(blocks[mode].bits * block + 19 * hit);
+    flip_b(3 * blocks[mode].bits);
+    EXPECT(0, 0, hits[0] + hits[1] + hits[2], 0, worst, run(RECEIVE_B, mode, size));
+    HOLD(same(&area, &frame, size));
+}
+
+/* The worst block may be any of three; with t hits in each, one hit more in a block leaves the frame's bytes zero. */
 static void hits_b(size_t mode)
 {
     size_t size = 3 * blocks[mode].bytes, t = blocks[mode].t;
     set_scheme(2);
-    sent(SEND_B, mode, size, 4 * ORTKAVEQ_SYMBOL);
-    for (size_t hit = 0; hit < 3 * t; hit++)
-        flip_b(blocks[mode].bits * (hit / t) + 19 * (hit % t));
-    ACCEPT(3 * t, run(RECEIVE_B, mode, size));
-    HOLD(same(&area, &frame, size));
+    EACH(worst, 0, 1, 2)
+        hit_blocks(mode, size, (size_t[]){*worst == 0 ? t : 1, *worst == 1 ? t : 0, *worst == 2 ? t : 2}, t);
+    hit_blocks(mode, size, (size_t[]){t, t, t}, t);
     EACH(block, 2, 1, 0) {
         flip_b(blocks[mode].bits * *block + 400);
         REFUSE(ORTKAVEQ_UNCORRECTABLE, *block, run(RECEIVE_B, mode, size));

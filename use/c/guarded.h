@@ -44,7 +44,7 @@ static const struct { struct list *lists[6]; int read; } jobs[] = {
 };
 
 /* An answer; the count is of bits mended, or of OFDM symbols. */
-struct told { size_t number, place, count, fields; };
+struct told { size_t number, place, count, fields, worst; };
 
 static bool behind; /* whether lists end at the page that cannot be touched, or begin at it */
 static int line;    /* of guard.c, where something is expected just now */
@@ -98,9 +98,9 @@ static void all(const struct list *l, size_t from, size_t to, uint8_t value)
 
 /* ---- Calls */
 
-static struct told told(struct ortkaveq_answer a) { return (struct told){a.number, a.place, a.mended, 0}; }
-static struct told told_a(struct ortkaveq_answer_a a) { return (struct told){a.number, a.place, a.mended, a.fields}; }
-static struct told told_symbols(struct ortkaveq_answer_symbols a) { return (struct told){a.number, a.place, a.symbols, 0}; }
+static struct told told(struct ortkaveq_answer a) { return (struct told){a.number, a.place, a.mended, 0, 0}; }
+static struct told received(struct ortkaveq_received a) { return (struct told){a.number, a.place, a.mended, a.fields, a.worst}; }
+static struct told told_symbols(struct ortkaveq_answer_symbols a) { return (struct told){a.number, a.place, a.symbols, 0, 0}; }
 
 #define LIST(l) (void *)l.at, l.length
 static struct told call(enum job job, uint8_t mode, size_t size)
@@ -109,10 +109,10 @@ static struct told call(enum job job, uint8_t mode, size_t size)
     case ENCODE: return told(ortkaveq_encode(mode, LIST(word), LIST(out)));
     case DECODE: return told(ortkaveq_decode(mode, LIST(word), LIST(out), (void *)first.at));
     case SEND_A: return told(ortkaveq_send_a(mode, LIST(frame), LIST(i), LIST(q)));
-    case RECEIVE_A: return told_a(ortkaveq_receive_a(mode, LIST(i), LIST(q), LIST(area), (void *)first.at, (void *)second.at));
+    case RECEIVE_A: return received(ortkaveq_receive_a(mode, LIST(i), LIST(q), LIST(area), (void *)first.at, (void *)second.at));
     case SYMBOLS_B: return told_symbols(ortkaveq_symbols_b(mode, size, LIST(scheme)));
     case SEND_B: return told(ortkaveq_send_b(mode, LIST(frame), LIST(scheme), LIST(i), LIST(q)));
-    default: return told(ortkaveq_receive_b(mode, size, LIST(scheme), LIST(i), LIST(q), LIST(area)));
+    default: return received(ortkaveq_receive_b(mode, size, LIST(scheme), LIST(i), LIST(q), LIST(area)));
     }
 }
 
@@ -156,14 +156,14 @@ static struct told with(struct list *l, size_t length, enum job job, size_t mode
 
 static void expect(struct told e, struct told t)
 {
-    if (t.number != e.number || t.place != e.place || t.count != e.count || t.fields != e.fields)
-        FAIL("number %zu, place %zu, count %zu, fields %zu; came %zu, %zu, %zu, %zu", e.number, e.place, e.count, e.fields, t.number, t.place,
-             t.count, t.fields);
+    if (t.number != e.number || t.place != e.place || t.count != e.count || t.fields != e.fields || t.worst != e.worst)
+        FAIL("number %zu, place %zu, count %zu, fields %zu, worst %zu; came %zu, %zu, %zu, %zu, %zu", e.number, e.place, e.count, e.fields, e.worst,
+             t.number, t.place, t.count, t.fields, t.worst);
 }
 
-#define EXPECT(number, place, count, fields, call) (line = __LINE__, expect((struct told){number, place, count, fields}, call))
-#define ACCEPT(count, call) EXPECT(0, 0, count, 0, call)
-#define REFUSE(number, place, call) EXPECT(number, place, 0, 0, call)
+#define EXPECT(number, place, count, fields, worst, call) (line = __LINE__, expect((struct told){number, place, count, fields, worst}, call))
+#define ACCEPT(count, call) EXPECT(0, 0, count, 0, 0, call)
+#define REFUSE(number, place, call) EXPECT(number, place, 0, 0, 0, call)
 #define HOLD(condition) (line = __LINE__, (condition) ? (void)0 : FAIL("%s", #condition))
 #define EACH(name, ...) for (size_t *name = (size_t[]){__VA_ARGS__, SIZE_MAX}; *name != SIZE_MAX; name++)
 

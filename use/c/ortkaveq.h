@@ -84,16 +84,22 @@ enum {
 
 /* ---- Answers. In a refusal every count is 0. */
 
+/* Of encode, decode and send. */
 struct ortkaveq_answer {
     uint32_t number; /* 0, or why the call refused: enum ortkaveq_number */
-    uint32_t mended; /* bits mended, over all blocks; 0 for encode and send */
+    uint32_t mended; /* bits mended; 0 for encode and send */
     uint64_t place;  /* where, as the number says */
 };
 
-struct ortkaveq_answer_a {
-    uint32_t number;
-    uint16_t mended;
-    uint16_t fields; /* how many of the 56 bits of the protected fields differ from those that are sent: 0 to 12 */
+/*
+ * Of receive, both payloads. mended and worst are the quality of the line: in how many places the coded bits received differ from those that sending the frame
+ * again would give, in all and in the worst block; fill and protected bits are not counted. Uncoded, both are 0.
+ */
+struct ortkaveq_received {
+    uint16_t number;
+    uint16_t mended; /* 0 to 32 in Payload A, 0 to 8528 in Payload B */
+    uint16_t fields; /* Payload A: how many of the 56 bits of the protected fields differ from those that are sent, 0 to 12; Payload B: 0 */
+    uint16_t worst;  /* bits mended in the worst block: 0 to t of its code. worst <= mended <= blocks * worst; Payload A has two */
     uint64_t place;
 };
 
@@ -105,10 +111,10 @@ struct ortkaveq_answer_symbols {
 
 static_assert(sizeof(size_t) == 8, "a machine of 64 bits");
 static_assert(sizeof(struct ortkaveq_answer) == 16 && offsetof(struct ortkaveq_answer, mended) == 4 && offsetof(struct ortkaveq_answer, place) == 8,
-              "the answer of every call but two");
-static_assert(sizeof(struct ortkaveq_answer_a) == 16 && offsetof(struct ortkaveq_answer_a, mended) == 4 && offsetof(struct ortkaveq_answer_a, fields) == 6
-                  && offsetof(struct ortkaveq_answer_a, place) == 8,
-              "the answer of ortkaveq_receive_a");
+              "the answer of encode, decode and send");
+static_assert(sizeof(struct ortkaveq_received) == 16 && offsetof(struct ortkaveq_received, mended) == 2 && offsetof(struct ortkaveq_received, fields) == 4
+                  && offsetof(struct ortkaveq_received, worst) == 6 && offsetof(struct ortkaveq_received, place) == 8,
+              "the answer of receive");
 static_assert(sizeof(struct ortkaveq_answer_symbols) == 16 && offsetof(struct ortkaveq_answer_symbols, symbols) == 4
                   && offsetof(struct ortkaveq_answer_symbols, place) == 8,
               "the answer of ortkaveq_symbols_b");
@@ -145,10 +151,10 @@ struct ortkaveq_answer ortkaveq_send_a(uint8_t mode, const uint8_t *frame, size_
  * check are, even where its frame could have been mended. Else one that was sent by the earlier rule of the frame check is refused with 10.
  * Reads: the first 512 elements of i and of q. Writes: the first 94 (mode 0) or 58 (mode 1) bytes of area, the frame; all 16 of first and of second, the places
  * mended in the first and in the second half: each an index, 0 to 391, in the 392 bits that its OFDM symbol carries beside protected fields; in mode 0 all 0.
- * mended is the number of places of both. With mended 1 and both lists all 0 it is place 0 of one of the two halves, and the answer does not say of which.
+ * mended is the number of places of both, worst the number of those of the half that has more. With mended 1 and both lists all 0 it is place 0 of one of the two halves, and the answer does not say of which.
  * Refuses with 1, 3, 7, 8, 11, 9, 10. A refusal writes nothing to area, and 0 to all of first and second; bytes of area beyond the frame keep what they held.
  */
-struct ortkaveq_answer_a ortkaveq_receive_a(uint8_t mode, const int16_t *i, size_t i_length, const int16_t *q, size_t q_length, uint8_t *area,
+struct ortkaveq_received ortkaveq_receive_a(uint8_t mode, const int16_t *i, size_t i_length, const int16_t *q, size_t q_length, uint8_t *area,
                                             size_t area_length, uint16_t *first, uint16_t *second);
 
 /* ---- Payload B: modes 0, 1 and 2, up to 256 OFDM symbols, points by a scheme */
@@ -176,8 +182,8 @@ struct ortkaveq_answer ortkaveq_send_b(uint8_t mode, const uint8_t *frame, size_
  * Refuses with 1, 2, 5, 6, 3, 7, 8, 9. A refusal writes nothing, but for 9, which leaves the first size bytes of area all zero; bytes of area beyond them
  * keep what they held.
  */
-struct ortkaveq_answer ortkaveq_receive_b(uint8_t mode, size_t size, const uint8_t *scheme, size_t scheme_length, const int16_t *i, size_t i_length,
-                                          const int16_t *q, size_t q_length, uint8_t *area, size_t area_length);
+struct ortkaveq_received ortkaveq_receive_b(uint8_t mode, size_t size, const uint8_t *scheme, size_t scheme_length, const int16_t *i, size_t i_length,
+                                            const int16_t *q, size_t q_length, uint8_t *area, size_t area_length);
 
 #ifdef __cplusplus
 }

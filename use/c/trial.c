@@ -1,7 +1,7 @@
 /*
  * The trial program over ortkaveq.h: reads requests from standard input, makes the calls and writes the responses to standard output. crates/trial/src/main.rt
- * has the format. What no response shows it holds itself, and aborts where that fails: that ortkaveq_symbols_b agrees with the jobs of Payload B, and that a
- * job without counts has mended nothing. Integers go in and out as they lie in memory: for little-endian machines, as both of ours are.
+ * has the format. What no response shows it holds itself, and aborts where that fails: that ortkaveq_symbols_b agrees with the jobs of Payload B, that a job
+ * without counts has mended nothing, and that Payload B has no protected bits. Integers go in and out as they lie in memory: for little-endian machines, as both of ours are.
  */
 #include "ortkaveq.h"
 
@@ -15,13 +15,13 @@ enum { MOST_BYTES = 67300, MOST_LEVELS = 65600, LISTS = 4, PLACE_LISTS = 2, POIS
 
 /* Jobs 1 to 6: their lists, of bytes or levels, how many of them, the last ones, are lent, and how many counts and lists of places the response has. */
 static const struct { const char *lists; int lent, counts, places; } jobs[] = {
-    {"", 0, 0, 0}, {"bb", 1, 0, 0}, {"bb", 1, 1, 1}, {"bll", 2, 0, 0}, {"llb", 1, 2, 2}, {"bbll", 2, 0, 0}, {"bllb", 1, 1, 0},
+    {"", 0, 0, 0}, {"bb", 1, 0, 0}, {"bb", 1, 1, 1}, {"bll", 2, 0, 0}, {"llb", 1, 3, 2}, {"bbll", 2, 0, 0}, {"bllb", 1, 2, 0},
 };
 
 /* A list, in memory of just its length, so that a step beyond it is one. */
 struct list { void *at; size_t length, width; };
 
-struct told { uint32_t number; uint64_t place, counts[2]; };
+struct told { uint32_t number; uint64_t place, counts[3]; };
 
 static void hold(bool good, const char *what)
 {
@@ -69,9 +69,15 @@ static struct list make_places(void)
 
 static void put(const void *from, size_t bytes) { fwrite(from, 1, bytes, stdout); }
 
-static struct told told(struct ortkaveq_answer a) { return (struct told){a.number, a.place, {a.mended, 0}}; }
+static struct told told(struct ortkaveq_answer a) { return (struct told){a.number, a.place, {a.mended, 0, 0}}; }
 
-static struct told told_a(struct ortkaveq_answer_a a) { return (struct told){a.number, a.place, {a.mended, a.fields}}; }
+static struct told told_a(struct ortkaveq_received a) { return (struct told){a.number, a.place, {a.mended, a.fields, a.worst}}; }
+
+static struct told told_b(struct ortkaveq_received a)
+{
+    hold(a.fields == 0, "Payload B has protected bits that differ");
+    return (struct told){a.number, a.place, {a.mended, a.worst, 0}};
+}
 
 #define LIST(n) l[n].at, l[n].length
 static struct told call(uint8_t job, uint8_t mode, size_t size, const struct list *l, const struct list *places)
@@ -82,7 +88,7 @@ static struct told call(uint8_t job, uint8_t mode, size_t size, const struct lis
     case 3: return told(ortkaveq_send_a(mode, LIST(0), LIST(1), LIST(2)));
     case 4: return told_a(ortkaveq_receive_a(mode, LIST(0), LIST(1), LIST(2), places[0].at, places[1].at));
     case 5: return told(ortkaveq_send_b(mode, LIST(0), LIST(1), LIST(2), LIST(3)));
-    default: return told(ortkaveq_receive_b(mode, size, LIST(0), LIST(1), LIST(2), LIST(3)));
+    default: return told_b(ortkaveq_receive_b(mode, size, LIST(0), LIST(1), LIST(2), LIST(3)));
     }
 }
 

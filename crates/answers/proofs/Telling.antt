@@ -62,8 +62,8 @@ numbered-not r e =
     let w : _≡_ {A = ℕ} 1 0 = ap (λ (b : Bool). cond b 0 1) z in
     omega arith
 
-pub never-accepted : (r : Refusal) (mended protected : ℕ) → because r ≡ accepted mended protected → ⊥
-never-accepted r m p e = numbered-not r (ap (λ (t : Told). t .number) e)
+pub never-accepted : (r : Refusal) (mended protected worst : ℕ) → because r ≡ accepted mended protected worst → ⊥
+never-accepted r m p w e = numbered-not r (ap (λ (t : Told). t .number) e)
 
 -- a refusal tells its number and place, and no counts
 pub because-is : (r : Refusal) → because r ≡ refused (because r .number) (because r .place)
@@ -113,11 +113,11 @@ word-same a b e =
     (decoded-same (a .answer) (b .answer) (word-told a e)) e
 
 receivedAOf : Told → ReceivedA
-receivedAOf t = cond (eqb (t .number) 0) (receivedA.Accepted (t .mended) (t .protected)) (receivedA.Refused (refusalOf t))
+receivedAOf t = cond (eqb (t .number) 0) (receivedA.Accepted (t .mended) (t .protected) (t .worst)) (receivedA.Refused (refusalOf t))
 
 received-a-of : (a : ReceivedA) → receivedAOf (ofReceivedA a) ≡ a
 unfolding receivedAOf
-received-a-of (receivedA.Accepted m p) = refl
+received-a-of (receivedA.Accepted m p w) = refl
 received-a-of (receivedA.Refused r) = rw (numbered r, refusal-of r)
 
 received-a-same : (a b : ReceivedA) → ofReceivedA a ≡ ofReceivedA b → a ≡ b
@@ -132,11 +132,11 @@ burst-same a b e =
     (received-a-same (a .answer) (b .answer) (burst-told a e)) e
 
 receivedBOf : Told → ReceivedB
-receivedBOf t = cond (eqb (t .number) 0) (receivedB.Accepted (t .mended)) (receivedB.Refused (refusalOf t))
+receivedBOf t = cond (eqb (t .number) 0) (receivedB.Accepted (t .mended) (t .worst)) (receivedB.Refused (refusalOf t))
 
 received-b-of : (a : ReceivedB) → receivedBOf (ofReceivedB a) ≡ a
 unfolding receivedBOf
-received-b-of (receivedB.Accepted m) = refl
+received-b-of (receivedB.Accepted m w) = refl
 received-b-of (receivedB.Refused r) = rw (numbered r, refusal-of r)
 
 pub received-b-same : (a b : ReceivedB) → ofReceivedB a ≡ ofReceivedB b → a ≡ b
@@ -144,16 +144,16 @@ received-b-same a b e = sym (received-b-of a) ∙ ap receivedBOf e ∙ received-
 
 -- ---- number 0 says that it is accepted, with its own counts
 
-pub accepted-written : (a : Written) → ofWritten a .number ≡ 0 → ofWritten a ≡ accepted 0 0
+pub accepted-written : (a : Written) → ofWritten a .number ≡ 0 → ofWritten a ≡ accepted 0 0 0
 accepted-written written.Accepted e = refl
 accepted-written (written.Refused r) e = absurd (numbered-not r e)
 
-pub accepted-a : (a : ReceivedA) → ofReceivedA a .number ≡ 0 → ofReceivedA a ≡ accepted (ofReceivedA a .mended) (ofReceivedA a .protected)
-accepted-a (receivedA.Accepted m p) e = refl
+pub accepted-a : (a : ReceivedA) → ofReceivedA a .number ≡ 0 → ofReceivedA a ≡ accepted (ofReceivedA a .mended) (ofReceivedA a .protected) (ofReceivedA a .worst)
+accepted-a (receivedA.Accepted m p w) e = refl
 accepted-a (receivedA.Refused r) e = absurd (numbered-not r e)
 
-pub accepted-b : (a : ReceivedB) → ofReceivedB a .number ≡ 0 → ofReceivedB a ≡ accepted (ofReceivedB a .mended) 0
-accepted-b (receivedB.Accepted m) e = refl
+pub accepted-b : (a : ReceivedB) → ofReceivedB a .number ≡ 0 → ofReceivedB a ≡ accepted (ofReceivedB a .mended) 0 (ofReceivedB a .worst)
+accepted-b (receivedB.Accepted m w) e = refl
 accepted-b (receivedB.Refused r) e = absurd (numbered-not r e)
 
 -- ---- checks
@@ -164,5 +164,5 @@ by-test P true p q = p refl
 by-test P false p q = q refl
 
 -- what is accepted is not refused
-pub not-refused : {t : Told} {mended differing number place : ℕ} → t ≡ accepted mended differing → t ≡ refused number place → 0 < number → ⊥
+pub not-refused : {t : Told} {mended differing worst number place : ℕ} → t ≡ accepted mended differing worst → t ≡ refused number place → 0 < number → ⊥
 not-refused a r l = let z = ap (λ (t : Told). t .number) (sym a ∙ r) in omega arith

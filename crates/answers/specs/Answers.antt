@@ -19,13 +19,13 @@ use Rattle.answers.specs.declared.ReceivedB.the-variants as receivedB
 use Rattle.answers.specs.declared.DecodedWord.{DecodedWord}
 use Rattle.answers.specs.declared.ReceivedBurst.{ReceivedBurst}
 
--- what an accepted answer tells, with the bits mended and the protected bits that differ
-abbrev pub accepted : ℕ → ℕ → Told
-accepted mended protected = record { number = 0; place = 0; mended = mended; protected = protected }
+-- what an accepted answer tells, with the bits mended, the protected bits that differ, and the bits mended in the worst block
+abbrev pub accepted : ℕ → ℕ → ℕ → Told
+accepted mended protected worst = record { number = 0; place = 0; mended = mended; protected = protected; worst = worst }
 
 -- what a refusal tells
 abbrev pub refused : ℕ → ℕ → Told
-refused number place = record { number = number; place = place; mended = 0; protected = 0 }
+refused number place = record { number = number; place = place; mended = 0; protected = 0; worst = 0 }
 
 abbrev pub because : Refusal → Told
 because Unknown = refused 1 0
@@ -42,22 +42,22 @@ because Noise = refused 11 0
 
 -- what encode, send A and send B tell
 abbrev pub ofWritten : Written → Told
-ofWritten written.Accepted = accepted 0 0
+ofWritten written.Accepted = accepted 0 0 0
 ofWritten (written.Refused why) = because why
 
 -- what decode tells
 abbrev pub ofDecoded : Decoded → Told
-ofDecoded (decoded.Accepted mended) = accepted mended 0
+ofDecoded (decoded.Accepted mended) = accepted mended 0 0
 ofDecoded (decoded.Refused why) = because why
 
 -- what receive A tells
 abbrev pub ofReceivedA : ReceivedA → Told
-ofReceivedA (receivedA.Accepted mended protected) = accepted mended protected
+ofReceivedA (receivedA.Accepted mended protected worst) = accepted mended protected worst
 ofReceivedA (receivedA.Refused why) = because why
 
 -- what receive B tells
 abbrev pub ofReceivedB : ReceivedB → Told
-ofReceivedB (receivedB.Accepted mended) = accepted mended 0
+ofReceivedB (receivedB.Accepted mended worst) = accepted mended 0 worst
 ofReceivedB (receivedB.Refused why) = because why
 
 -- ---- the places mended
@@ -80,7 +80,7 @@ ofWord r = record { told = ofDecoded (r .answer); places = r .places }
 
 -- where it is accepted, with these places mended, and where it is refused
 abbrev pub acceptedWord : ℕ → List ℕ → ToldWord
-acceptedWord mended places = record { told = accepted mended 0; places = listed places }
+acceptedWord mended places = record { told = accepted mended 0 0; places = listed places }
 
 abbrev pub refusedWord : ℕ → ℕ → ToldWord
 refusedWord number place = record { told = refused number place; places = listed [] }
@@ -95,8 +95,8 @@ abbrev pub ofBurst : ReceivedBurst → ToldBurst
 ofBurst r = record { told = ofReceivedA (r .answer); first = r .first; second = r .second }
 
 -- where it is accepted, with these places mended in each half, and where it is refused
-abbrev pub acceptedBurst : ℕ → ℕ → List ℕ → List ℕ → ToldBurst
-acceptedBurst mended protected first second = record { told = accepted mended protected; first = listed first; second = listed second }
+abbrev pub acceptedBurst : ℕ → ℕ → ℕ → List ℕ → List ℕ → ToldBurst
+acceptedBurst mended protected worst first second = record { told = accepted mended protected worst; first = listed first; second = listed second }
 
 abbrev pub refusedBurst : ℕ → ℕ → ToldBurst
 refusedBurst number place = record { told = refused number place; first = listed []; second = listed [] }

@@ -30,15 +30,19 @@ pub enum Decoded {
     Refused(Refusal),
 }
 
-// What receive A answers: the bits mended and the protected bits that differ, or a refusal.
+// What receive A answers: the bits mended, the protected bits that differ and the bits mended in the worst block, or a refusal.
 pub enum ReceivedA {
-    Accepted { mended: usize, protected: usize },
+    Accepted {
+        mended: usize,
+        protected: usize,
+        worst: usize,
+    },
     Refused(Refusal),
 }
 
-// What receive B answers: the bits mended, or a refusal.
+// What receive B answers: the bits mended and those of the worst block, or a refusal.
 pub enum ReceivedB {
-    Accepted(usize),
+    Accepted { mended: usize, worst: usize },
     Refused(Refusal),
 }
 
@@ -64,6 +68,7 @@ pub struct Told {
     pub place: usize,
     pub mended: usize,
     pub protected: usize,
+    pub worst: usize,
 }
 
 // What encode, send A or send B tells.
@@ -71,7 +76,7 @@ pub fn of_written(answer: Written) -> Told
     ensures { λ r. ⌜ r ≡ ofWritten answer ⌝ }
 {
     match answer {
-        Written::Accepted => accepted(0, 0),
+        Written::Accepted => accepted(0, 0, 0),
         Written::Refused(why) => of_refusal(why),
     }
 }
@@ -81,7 +86,7 @@ pub fn of_decoded(answer: Decoded) -> Told
     ensures { λ r. ⌜ r ≡ ofDecoded answer ⌝ }
 {
     match answer {
-        Decoded::Accepted(mended) => accepted(mended, 0),
+        Decoded::Accepted(mended) => accepted(mended, 0, 0),
         Decoded::Refused(why) => of_refusal(why),
     }
 }
@@ -91,7 +96,11 @@ pub fn of_received_a(answer: ReceivedA) -> Told
     ensures { λ r. ⌜ r ≡ ofReceivedA answer ⌝ }
 {
     match answer {
-        ReceivedA::Accepted { mended, protected } => accepted(mended, protected),
+        ReceivedA::Accepted {
+            mended,
+            protected,
+            worst,
+        } => accepted(mended, protected, worst),
         ReceivedA::Refused(why) => of_refusal(why),
     }
 }
@@ -101,7 +110,7 @@ pub fn of_received_b(answer: ReceivedB) -> Told
     ensures { λ r. ⌜ r ≡ ofReceivedB answer ⌝ }
 {
     match answer {
-        ReceivedB::Accepted(mended) => accepted(mended, 0),
+        ReceivedB::Accepted { mended, worst } => accepted(mended, 0, worst),
         ReceivedB::Refused(why) => of_refusal(why),
     }
 }
@@ -146,14 +155,15 @@ pub fn no_burst(why: Refusal) -> ReceivedBurst
     }
 }
 
-fn accepted(mended: usize, protected: usize) -> Told
-    ensures { λ r. ⌜ r ≡ accepted mended protected ⌝ }
+fn accepted(mended: usize, protected: usize, worst: usize) -> Told
+    ensures { λ r. ⌜ r ≡ accepted mended protected worst ⌝ }
 {
     Told {
         number: 0,
         place: 0,
         mended,
         protected,
+        worst,
     }
 }
 
@@ -165,5 +175,6 @@ fn refused(number: u8, place: usize) -> Told
         place,
         mended: 0,
         protected: 0,
+        worst: 0,
     }
 }

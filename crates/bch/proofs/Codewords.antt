@@ -42,9 +42,9 @@ by-answer number {c} code word out answer after bits long room P found none deco
     go (all-pass (λ k. Decodes k word out answer after → Decodes (passes c) word out answer after) (λ d. d .n) word out c
     long room (none-bad word bits) (λ p. p) (rw code at decoding))
   where
-    of-mended : (m : ℕ) → P (Accepted m) → (a : Decoded) → ofDecoded a ≡ accepted m 0 → P a
+    of-mended : (m : ℕ) → P (Accepted m) → (a : Decoded) → ofDecoded a ≡ accepted m 0 0 → P a
     of-mended m p (Accepted k) e = rw (ap (λ (t : Told). t .mended) e) p
-    of-mended m p (Refused r) e = absurd (never-accepted r _ _ e)
+    of-mended m p (Refused r) e = absurd (never-accepted r _ _ _ e)
 
     of-hopeless : ((r : Refusal) → P (Refused r)) → (a : Decoded) → ofDecoded a ≡ refused 9 0 → P a
     of-hopeless p (Accepted k) e = absurd (let z : _≡_ {A = ℕ} 0 9 = ap (λ (t : Told). t .number) e in omega arith)

@@ -101,7 +101,7 @@ module _ (number : ℕ) {c : Code} (code : named number ≡ known c) (w out : Li
           omega arith
 
   -- where m bits are answered as mended, the first m entries of the list name their places in the word: flipped there, it is what was written
-  pub places-named : (m : ℕ) → ofDecoded (answer .answer) ≡ accepted m 0 → Names (answer .places) w (take (c .n) after) m
+  pub places-named : (m : ℕ) → ofDecoded (answer .answer) ≡ accepted m 0 0 → Names (answer .places) w (take (c .n) after) m
   places-named m told = go passed
     where
       go : Decodes (passes c) w out answer after → Names (answer .places) w (take (c .n) after) m

@@ -91,15 +91,15 @@ codeOut (fails n p) = code1
 
 -- what the checks tell
 abbrev toldOut : Checked Code → Told
-toldOut (passes c) = accepted 0 0
+toldOut (passes c) = accepted 0 0 0
 toldOut (fails n p) = refused n p
 
 pub judged-once : (c : ℕ) (whole : Bool) (word out : List ℕ) (p q : Verdict) → WideVerdict p → WideVerdict q
     → Judged c whole word out p → Judged c whole word out q → p ≡ q
 judged-once c whole word out (Passes h) (Passes g) wh wg ph pg =
     ap Passes (held-once h g wh wg (ph .0 .sound) (pg .0 .sound) (ap codeOut (sym (ph .1) ∙ pg .1)))
-judged-once c whole word out (Passes h) (Fails r) wh wr ph pr = absurd (never-accepted r 0 0 (because-is r ∙ ap toldOut (sym pr ∙ ph .1)))
-judged-once c whole word out (Fails r) (Passes h) wr wh pr ph = absurd (never-accepted r 0 0 (because-is r ∙ ap toldOut (sym pr ∙ ph .1)))
+judged-once c whole word out (Passes h) (Fails r) wh wr ph pr = absurd (never-accepted r 0 0 0 (because-is r ∙ ap toldOut (sym pr ∙ ph .1)))
+judged-once c whole word out (Fails r) (Passes h) wr wh pr ph = absurd (never-accepted r 0 0 0 (because-is r ∙ ap toldOut (sym pr ∙ ph .1)))
 judged-once c whole word out (Fails r) (Fails s) wr ws pr ps =
     let tells : because r ≡ because s = because-is r ∙ ap toldOut (sym pr ∙ ps) ∙ sym (because-is s) in
     ap Fails (sym (refusal-of r) ∙ ap refusalOf tells ∙ refusal-of s)

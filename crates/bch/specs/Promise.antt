@@ -33,7 +33,7 @@ checked c = checkedBy (named c)
 
 abbrev pub Encodes : Checked Code → List ℕ → List ℕ → Written → List ℕ → Type 0
 Encodes (fails number place) word out answer after = (ofWritten answer ≡ refused number place) × (after ≡ out)
-Encodes (passes c) word out answer after = (ofWritten answer ≡ accepted 0 0) × (after ≡ encoded c word ++ drop (c .n) out)
+Encodes (passes c) word out answer after = (ofWritten answer ≡ accepted 0 0 0) × (after ≡ encoded c word ++ drop (c .n) out)
 
 -- encode(c, word, out): the answer, and `out` after
 abbrev pub Encoding : ℕ → List ℕ → List ℕ → Written → List ℕ → Type 0

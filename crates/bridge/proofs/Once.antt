@@ -12,10 +12,10 @@ use Rattle.answers.specs.declared.Written.{Written}
 use Rattle.answers.specs.declared.DecodedWord.{DecodedWord}
 use Rattle.answers.specs.declared.ReceivedBurst.{ReceivedBurst}
 use Rattle.answers.specs.declared.ReceivedB.{ReceivedB}
-use Rattle.bridge.specs.Calls.{answerOf, answerAOf}
+use Rattle.bridge.specs.Calls.{answerOf, receivedOf}
 use Rattle.bridge.specs.Calls.{EncodeCall, DecodeCall, SendACall, ReceiveACall, SendBCall, ReceiveBCall, SymbolsBCall}
 use Rattle.bridge.specs.declared.Answer.{Answer}
-use Rattle.bridge.specs.declared.AnswerA.{AnswerA}
+use Rattle.bridge.specs.declared.Received.{Received}
 use Rattle.bridge.specs.declared.Needed.{Needed}
 
 module _ {c : ℕ} {word out : List ℕ} {r s : Answer} {u v : List ℕ} where
@@ -38,12 +38,12 @@ module _ {mode : ℕ} {frame : List ℕ} {is qs : List ℤ} {r s : Answer} {is1 
       let same = send-a-once mode frame is qs (p .answer) (q .answer) is1 qs1 is2 qs2 (p .promise) (q .promise) in
       (p .told ∙ ap (λ (a : Written). answerOf (ofWritten a)) (same .0) ∙ sym (q .told), same .1, same .2)
 
-module _ {mode : ℕ} {is qs : List ℤ} {area : List ℕ} {r s : AnswerA} {u v first1 second1 first2 second2 : List ℕ} where
+module _ {mode : ℕ} {is qs : List ℤ} {area : List ℕ} {r s : Received} {u v first1 second1 first2 second2 : List ℕ} where
   pub receive-a-call-once : ReceiveACall mode is qs area r u first1 second1 → ReceiveACall mode is qs area s v first2 second2
       → (r ≡ s) × (u ≡ v) × (first1 ≡ first2) × (second1 ≡ second2)
   receive-a-call-once p q =
       let same = receive-a-once area (p .answer) (q .answer) u v mode is qs (p .promise) (q .promise) in (
-        p .told ∙ ap (λ (a : ReceivedBurst). answerAOf (ofReceivedA (a .answer))) (same .0) ∙ sym (q .told),
+        p .told ∙ ap (λ (a : ReceivedBurst). receivedOf (ofReceivedA (a .answer))) (same .0) ∙ sym (q .told),
         same .1,
         p .first-list ∙ ap (λ (a : ReceivedBurst). a .first) (same .0) ∙ sym (q .first-list),
         p .second-list ∙ ap (λ (a : ReceivedBurst). a .second) (same .0) ∙ sym (q .second-list),
@@ -55,11 +55,11 @@ module _ {mode : ℕ} {frame scheme : List ℕ} {is qs : List ℤ} {r s : Answer
       let same = send-b-once mode frame scheme is qs (p .answer) (q .answer) is1 qs1 is2 qs2 (p .promise) (q .promise) in
       (p .told ∙ ap (λ (a : Written). answerOf (ofWritten a)) (same .0) ∙ sym (q .told), same .1, same .2)
 
-module _ {mode size : ℕ} {scheme : List ℕ} {is qs : List ℤ} {area : List ℕ} {r s : Answer} {u v : List ℕ} where
+module _ {mode size : ℕ} {scheme : List ℕ} {is qs : List ℤ} {area : List ℕ} {r s : Received} {u v : List ℕ} where
   pub receive-b-call-once : ReceiveBCall mode size scheme is qs area r u → ReceiveBCall mode size scheme is qs area s v → (r ≡ s) × (u ≡ v)
   receive-b-call-once p q =
       let same = receive-b-once area (p .answer) (q .answer) u v mode size scheme is qs (p .promise) (q .promise) in
-      (p .told ∙ ap (λ (a : ReceivedB). answerOf (ofReceivedB a)) (same .0) ∙ sym (q .told), same .1)
+      (p .told ∙ ap (λ (a : ReceivedB). receivedOf (ofReceivedB a)) (same .0) ∙ sym (q .told), same .1)
 
 pub symbols-b-call-once : (mode size : ℕ) (scheme : List ℕ) {r s : Needed} → SymbolsBCall mode size scheme r → SymbolsBCall mode size scheme s → r ≡ s
 symbols-b-call-once mode size scheme p q = p ∙ sym q

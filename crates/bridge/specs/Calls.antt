@@ -16,16 +16,16 @@ use Rattle.payload_a.specs.PromiseA.{SendingA, ReceivingA}
 use Rattle.payload_b.specs.CodedB.{symbolsFor}
 use Rattle.payload_b.specs.PromiseB.{planned, SendingB, ReceivingB}
 use Rattle.bridge.specs.declared.Answer.{Answer}
-use Rattle.bridge.specs.declared.AnswerA.{AnswerA}
+use Rattle.bridge.specs.declared.Received.{Received}
 use Rattle.bridge.specs.declared.Needed.{Needed}
 
 -- what an answer tells, with one count
 abbrev pub answerOf : Told → Answer
 answerOf t = record { number = t .number; mended = t .mended; place = t .place }
 
--- and with both
-abbrev pub answerAOf : Told → AnswerA
-answerAOf t = record { number = t .number; mended = t .mended; protected = t .protected; place = t .place }
+-- and with all
+abbrev pub receivedOf : Told → Received
+receivedOf t = record { number = t .number; mended = t .mended; protected = t .protected; worst = t .worst; place = t .place }
 
 -- what the checks found, and the OFDM symbols needed where all pass
 abbrev pub neededOf : Checked Unit → ℕ → Needed
@@ -52,10 +52,10 @@ pub record SendACall (mode : ℕ) (frame : List ℕ) (is qs : List ℤ) (r : Ans
   pub told : r ≡ answerOf (ofWritten answer)
 
 -- ortkaveq_receive_a(mode, i, q, area, first, second): the answer, and `area`, `first` and `second` after
-pub record ReceiveACall (mode : ℕ) (is qs : List ℤ) (area : List ℕ) (r : AnswerA) (after first second : List ℕ) : Type 0 where
+pub record ReceiveACall (mode : ℕ) (is qs : List ℤ) (area : List ℕ) (r : Received) (after first second : List ℕ) : Type 0 where
   pub answer : ReceivedBurst
   pub promise : ReceivingA mode is qs area answer after
-  pub told : r ≡ answerAOf (ofReceivedA (answer .answer))
+  pub told : r ≡ receivedOf (ofReceivedA (answer .answer))
   pub first-list : first ≡ answer .first
   pub second-list : second ≡ answer .second
 
@@ -66,10 +66,10 @@ pub record SendBCall (mode : ℕ) (frame scheme : List ℕ) (is qs : List ℤ) (
   pub told : r ≡ answerOf (ofWritten answer)
 
 -- ortkaveq_receive_b(mode, size, scheme, i, q, area): the answer, and `area` after
-pub record ReceiveBCall (mode size : ℕ) (scheme : List ℕ) (is qs : List ℤ) (area : List ℕ) (r : Answer) (after : List ℕ) : Type 0 where
+pub record ReceiveBCall (mode size : ℕ) (scheme : List ℕ) (is qs : List ℤ) (area : List ℕ) (r : Received) (after : List ℕ) : Type 0 where
   pub answer : ReceivedB
   pub promise : ReceivingB mode size scheme is qs area answer after
-  pub told : r ≡ answerOf (ofReceivedB answer)
+  pub told : r ≡ receivedOf (ofReceivedB answer)
 
 -- ortkaveq_symbols_b(mode, size, scheme): the checks with which send B and receive B begin, and no others
 abbrev pub SymbolsBCall : ℕ → ℕ → List ℕ → Needed → Type 0

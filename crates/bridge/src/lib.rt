@@ -2,7 +2,7 @@
 // A slice is passed as a pointer and then a length.
 ghost use mathlib.Core.Path.{_≡_};
 ghost use Prim.Native.Nat.{_^_, _<_};
-ghost use Rattle.bridge.specs.Calls.{answerOf, answerAOf, EncodeCall, DecodeCall, SendACall, ReceiveACall, SendBCall, ReceiveBCall, SymbolsBCall};
+ghost use Rattle.bridge.specs.Calls.{answerOf, receivedOf, EncodeCall, DecodeCall, SendACall, ReceiveACall, SendBCall, ReceiveBCall, SymbolsBCall};
 use answers::PLACES;
 use answers::Told;
 use payload_b::plan;
@@ -16,12 +16,14 @@ pub struct Answer {
     pub place: u64,
 }
 
-// The same of receiving Payload A, with the count of protected bits that differ. It is no larger, so that it too comes back in registers.
+// The same of receiving, Payload A or Payload B, with all counts: the bits mended, the protected bits that differ, 0 in Payload B, and the bits mended in the
+// worst block. It is no larger, so that it too comes back in registers.
 #[repr(C)]
-pub struct AnswerA {
-    pub number: u32,
+pub struct Received {
+    pub number: u16,
     pub mended: u16,
     pub protected: u16,
+    pub worst: u16,
     pub place: u64,
 }
 
@@ -76,7 +78,7 @@ pub extern "C" fn ortkaveq_receive_a(
     area: &mut [u8],
     first: &mut [u16; PLACES],
     second: &mut [u16; PLACES],
-) -> AnswerA
+) -> Received
     ensures { λ r. ⌜ ReceiveACall mode (now (i .entry)) (now (q .entry)) (now (area .entry)) r (now (area .exit)) (now (first .exit)) (now (second .exit)) ⌝ }
 {
     let received = receiver_a::receive_a(mode, i, q, area);
@@ -85,7 +87,7 @@ pub extern "C" fn ortkaveq_receive_a(
     let of_second = received.second;
     *first = of_first;
     *second = of_second;
-    answer_a_of(answers::of_received_a(answer))
+    received_of(answers::of_received_a(answer))
 }
 
 // Sends a frame of Payload B by a scheme: writes 256 elements of I and of Q for each OFDM symbol needed.
@@ -111,10 +113,10 @@ pub extern "C" fn ortkaveq_receive_b(
     i: &[i16],
     q: &[i16],
     area: &mut [u8],
-) -> Answer
+) -> Received
     ensures { λ r. ⌜ ReceiveBCall mode size (now (scheme .entry)) (now (i .entry)) (now (q .entry)) (now (area .entry)) r (now (area .exit)) ⌝ }
 {
-    answer_of(answers::of_received_b(receiver_b::receive_b(mode, size, scheme, i, q, area)))
+    received_of(answers::of_received_b(receiver_b::receive_b(mode, size, scheme, i, q, area)))
 }
 
 // How many OFDM symbols a frame of Payload B needs, of so many bytes, by a scheme: send and receive B ask for 256 elements of I and of Q for each.
@@ -141,15 +143,16 @@ fn answer_of(t: Told) -> Answer
     }
 }
 
-// What receive A's answer tells, with both counts.
-fn answer_a_of(t: Told) -> AnswerA
-    requires { ⌜ (t .mended < 2 ^ 16) × (t .protected < 2 ^ 16) ⌝ }
-    ensures { λ r. ⌜ r ≡ answerAOf t ⌝ }
+// What an answer of receiving tells, with all counts.
+fn received_of(t: Told) -> Received
+    requires { ⌜ (t .mended < 2 ^ 16) × (t .protected < 2 ^ 16) × (t .worst < 2 ^ 16) ⌝ }
+    ensures { λ r. ⌜ r ≡ receivedOf t ⌝ }
 {
-    AnswerA {
-        number: t.number as u32,
+    Received {
+        number: t.number as u16,
         mended: t.mended as u16,
         protected: t.protected as u16,
+        worst: t.worst as u16,
         place: t.place as u64,
     }
 }

@@ -64,7 +64,7 @@ pub settled : {c : Code} {word copy : List ℕ} {flips : Flips} → Candidate c 
 settled {c} {word} {copy} candidate out answer after (inl (codeword, e, left)) = inl (record {
   codeword = copy;
   within = record { codeword = codeword; near = (let n = candidate .near in let k = candidate .count in omega arith) };
-  tells = ap ofWord e ∙ ap₂ (λ (n : ℕ) (l : List ℕ). record { told = accepted n 0; places = l }) (candidate .count) (candidate .list);
+  tells = ap ofWord e ∙ ap₂ (λ (n : ℕ) (l : List ℕ). record { told = accepted n 0 0; places = l }) (candidate .count) (candidate .list);
   left = left;
 })
 settled {c} candidate out answer after (inr (not, e, left)) = inr (record {

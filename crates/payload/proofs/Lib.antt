@@ -1,3 +1,4 @@
 -- The laws of the crate.
+pub mod LineQuality
 pub mod Scrambling
 pub mod Wires

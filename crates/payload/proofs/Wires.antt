@@ -1,5 +1,5 @@
 -- Laws of what is sent for a frame, of Payload A and of Payload B alike: clean bits fit their frame, no two frames fit the same bits, and where one fits,
--- each coded block can be mended.
+-- each coded block can be mended. And of blocks, when more bits come behind them.
 -- Assumes nothing.
 use mathlib.Core.Path.{_≡_, refl, sym, ap, ap₂, _∙_}
 use mathlib.Core.List.{List, [], _∷_, _++_}
@@ -8,7 +8,7 @@ use native.Mathlib.Decide.{decLt}
 use native.Mathlib.Nat.{mul-suc, mul-le-mul-left}
 use native.Mathlib.Omega.{arith}
 use lib.ListN.{length, take, drop, length-drop, take-append-drop}
-use lib.Seq.{drop-drop, length-take-le}
+use lib.Seq.{drop-drop, length-take-le, take-all, drop-at, take-append-le, drop-append-le}
 use Rattle.bits.specs.Words.{differ}
 use Rattle.bits.specs.Bytes.{Bytes}
 use Rattle.bits.proofs.Distances.{differ-self, differ-zero}
@@ -40,6 +40,17 @@ one-more n b m l = omega (arith, mul-suc n b, mul-le-mul-left n l)
 -- a block is as long as it should be
 pub block-long : (size m : ℕ) (bits : List ℕ) → length bits ≡ size * m → (b : ℕ) → b < m → length (blockAt size b bits) ≡ size
 block-long size m bits long b l = length-take-le size (drop (size * b) bits) (rw length-drop (omega (arith, one-more size b m l)))
+
+module _ (size : ℕ) (front more : List ℕ) (b : ℕ) where
+  -- a whole block stays as it is when more comes
+  pub block-kept : size * b + size ≤ length front → blockAt size b (front ++ more) ≡ blockAt size b front
+  block-kept l =
+      ap (take size) (drop-append-le (size * b) front more (omega arith))
+      ∙ take-append-le size (drop (size * b) front) more (rw length-drop (omega arith))
+
+  -- what comes is the next, where the blocks before are whole
+  pub block-last : length front ≡ size * b → length more ≡ size → blockAt size b (front ++ more) ≡ more
+  block-last lf lm = ap (take size) (drop-at front more (size * b) lf) ∙ take-all size more (omega arith)
 
 -- what is known of the blocks of a wire: none of their bits may differ, or each is a codeword of one code, and its t may
 pub data Blocks (w : Wire) : Type 0 where

@@ -1,11 +1,11 @@
 -- Payload A there and back: a frame goes up exactly when it fits and the burst is no noise; where points are accepted, sending the frame again gives the bits
--- received but for those counted; and clean points give the frame that was sent (demands 2 and 3; document 02, item 3).
+-- received but for those counted, in all and in the worse half; and clean points give the frame that was sent (demands 2 and 3; document 02, items 3, 8, 10).
 -- Assumes nothing.
 use mathlib.Core.Path.{_≡_, refl, sym, ap, ap₂, _∙_}
 use mathlib.Core.Logic.{inl, inr}
 use mathlib.Core.Bool.{true, _&&_}
 use mathlib.Core.List.{List, [], _++_}
-use Prim.Native.Nat.{ℕ, _+_, _*_, _≤_, _<_}
+use Prim.Native.Nat.{ℕ, _+_, _*_, _≤_, _<_, max}
 use native.Mathlib.Omega.{arith}
 use borrow.Author.Tests.{leb-true, eqb-true, ltb-false}
 use lib.Dec.{eqb, leb, ltb}
@@ -16,9 +16,10 @@ use Rattle.answers.specs.Answers.{accepted, ofWritten, ofReceivedA, listed, Tol
 use Rattle.answers.specs.Checks.{Checked, fails, passes}
 use Rattle.answers.specs.declared.Told.{Told}
 use Rattle.answers.specs.declared.Written.{Written}
-use Rattle.answers.specs.declared.ReceivedA.the-variants.{Accepted}
+use Rattle.answers.specs.declared.ReceivedA.{ReceivedA}
+use Rattle.answers.specs.declared.ReceivedA.the-variants.{Accepted, Refused}
 use Rattle.answers.specs.declared.ReceivedBurst.{ReceivedBurst}
-use Rattle.answers.proofs.Telling.{burst-told, by-test, not-refused}
+use Rattle.answers.proofs.Telling.{because-is, burst-told, by-test, not-refused}
 use Rattle.bits.specs.Words.{Bits, differ}
 use Rattle.bits.specs.Places.{places}
 use Rattle.bits.specs.Bytes.{Bytes}
@@ -34,8 +35,9 @@ use Rattle.symbols.proofs.Readings.{received-take, occupied-take}
 use Rattle.symbols.proofs.Placings.{length-placed, placed-occupied}
 use Rattle.symbols.proofs.Rooms.{room-enough}
 use Rattle.bch.proofs.Listings.{Names, names}
-use Rattle.payload.specs.Wire.{blockAt, Fits}
+use Rattle.payload.specs.Wire.{blockAt, countAt, worstOf, total, worst, Fits}
 use Rattle.payload.proofs.Wires.{fits-clean}
+use Rattle.payload.proofs.LineQuality.{Quality, quality, quality-told, none-mended, worst-two, worst-self}
 use Rattle.payload_a.specs.Segments.{rowBits, framed, carried, protected, fields, protectedDiffering, mostDiffering}
 use Rattle.payload_a.specs.CodedA.{bytesA, codedA, pointsA, sentI, sentQ}
 use Rattle.payload_a.specs.PromiseA.{elementsA, pointCountA, sendChecked, Sends, SendingA}
@@ -142,7 +144,7 @@ bits-read is qs = dibits-bits-from (received 2 is qs) 0
 -- ---- where points are accepted
 
 module _ (mode : ℕ) (is qs : List ℤ) (area : List ℕ) (answer : ReceivedBurst) (after : List ℕ) (receiving : ReceivingA mode is qs area answer after)
-    (mended differing : ℕ) (tells : ofReceivedA (answer .answer) ≡ accepted mended differing) where
+    (mended differing worst : ℕ) (tells : ofReceivedA (answer .answer) ≡ accepted mended differing worst) where
   abbrev bits : List ℕ
   bits = dibits (received 2 is qs)
 
@@ -184,7 +186,7 @@ module _ (mode : ℕ) (is qs : List ℤ) (area : List ℕ) (answer : ReceivedBur
 
   -- in how many places a half differs from the one received
   abbrev hitsIn : ℕ → List ℕ → ℕ
-  hitsIn half sent = differ (blockAt rowBits half sent) (blockAt rowBits half (carried bits))
+  hitsIn half sent = countAt rowBits half sent (carried bits)
 
   -- and in each half the list names the places of the bits mended: flipped there, the bits received are those that sending again gives
   abbrev Located : ℕ → List ℕ → List ℕ → Type 0
@@ -194,8 +196,10 @@ module _ (mode : ℕ) (is qs : List ℤ) (area : List ℕ) (answer : ReceivedBur
   abbrev resent : List ℕ
   resent = carried (again mode (take (bytesA mode) after))
 
-  -- of both halves together as many as are counted
-  pub sent-places : Located 0 (answer .first) resent × Located 1 (answer .second) resent × (hitsIn 0 resent + hitsIn 1 resent ≡ mended)
+  -- of both halves together as many as are counted, and in the worse one as many as the worst
+  pub sent-places :
+      Located 0 (answer .first) resent × Located 1 (answer .second) resent × (hitsIn 0 resent + hitsIn 1 resent ≡ mended)
+      × (max (hitsIn 0 resent) (hitsIn 1 resent) ≡ worst)
   sent-places =
       let f = goes .2 .frame in
       let long = goes .2 .fits .long in
@@ -205,6 +209,7 @@ module _ (mode : ℕ) (is qs : List ℤ) (area : List ℕ) (answer : ReceivedBur
         half 1 (omega arith) (ap (λ (t : ToldBurst). t .second) (goes .2 .tells)),
         differ-halves (codedA mode f) (carried bits) (length-codedA mode f (goes .0) long) (length-carried bits (length-read is qs))
             ∙ ap (λ (told : Told). told .mended) counts,
+        sym (worst-two rowBits (codedA mode f) (carried bits)) ∙ ap (λ (told : Told). told .worst) counts,
       )
     where
       half : (b : ℕ) → b < 2 → {list : List ℕ} → list ≡ listed (placesIn b mode (goes .2 .frame) (carried bits))
@@ -216,7 +221,16 @@ module _ (mode : ℕ) (is qs : List ℤ) (area : List ℕ) (answer : ReceivedBur
           (half-long b l (codedA mode f) (length-codedA mode f (goes .0) (goes .2 .fits .long))
           ∙ sym (half-long b l (carried bits) (length-carried bits (length-read is qs))))
 
--- an uncoded answer lists no place, accepted or refused
+  -- what both counts say of the blocks of the frame that went up
+  pub quality-a : Quality (wireA mode) (carried bits) (take (bytesA mode) after) mended worst
+  quality-a =
+      let f = goes .2 .frame in
+      let long = goes .2 .fits .long in
+      let counts = sym (burst-told answer (goes .2 .tells)) ∙ tells in
+      quality-told up-is (ap (λ (told : Told). told .mended) counts) (ap (λ (told : Told). told .worst) counts)
+      (quality (wireA mode) (carried bits) f (length-codedA mode f (goes .0) long) (length-carried bits (length-read is qs)) (goes .2 .fits))
+
+-- an uncoded answer lists no place and counts nothing mended, accepted or refused
 module _ (is qs : List ℤ) (area : List ℕ) (answer : ReceivedBurst) (after : List ℕ) where
   abbrev NoPlace : Type 0
   NoPlace = (answer .first ≡ listed []) × (answer .second ≡ listed [])
@@ -241,11 +255,18 @@ module _ (is qs : List ℤ) (area : List ℕ) (answer : ReceivedBurst) (after : 
       answered (inr (inl p)) = lists (p .tells)
       answered (inr (inr p)) = lists (p .tells)
 
+  pub uncoded-counts : ReceivingA 0 is qs area answer after → (ofReceivedA (answer .answer) .mended ≡ 0) × (ofReceivedA (answer .answer) .worst ≡ 0)
+  uncoded-counts receiving = by (answer .answer) refl
+    where
+      by : (r : ReceivedA) → answer .answer ≡ r → (ofReceivedA r .mended ≡ 0) × (ofReceivedA r .worst ≡ 0)
+      by (Accepted m p w) e = none-mended (quality-a 0 is qs area answer after receiving m p w (ap ofReceivedA e)) refl
+      by (Refused why) e = let t = because-is why in (ap (λ (told : Told). told .mended) t, ap (λ (told : Told). told .worst) t)
+
 -- ---- a frame goes up exactly when it fits and the burst is no noise
 
 -- the answer for a burst that is accepted
-abbrev pub burstOf : ℕ → ℕ → List ℕ → List ℕ → ReceivedBurst
-burstOf mended protected first second = record { answer = Accepted mended protected; first = listed first; second = listed second }
+abbrev pub burstOf : ℕ → ℕ → ℕ → List ℕ → List ℕ → ReceivedBurst
+burstOf mended protected worst first second = record { answer = Accepted mended protected worst; first = listed first; second = listed second }
 
 -- a call of legal lengths, with legal points and empty unavailable sub-carriers
 pub record Legal (mode : ℕ) (is qs : List ℤ) (area : List ℕ) : Type 0 where
@@ -273,9 +294,11 @@ module _ {mode : ℕ} {is qs : List ℤ} {area : List ℕ} (call : Legal mode is
       let P : Checked Unit → Type 0 = λ k. Receives k mode bits area answer after → RefusedWith 11 area answer after in
       checks-left P (noise P bits l (λ p. p)) receiving
 
--- a frame goes up: the call is accepted, with so many bits mended and so many protected bits that differ, and the frame stands at the front of the area
-abbrev pub GoesUp : ℕ → List ℕ → ReceivedBurst → List ℕ → List ℕ → ℕ → ℕ → Type 0
-GoesUp mode area answer after frame mended differing = (ofReceivedA (answer .answer) ≡ accepted mended differing) × (after ≡ frame ++ drop (bytesA mode) area)
+-- a frame goes up: the call is accepted, with so many bits mended, so many protected bits that differ and so many bits mended in the worse half, and the frame
+-- stands at the front of the area
+abbrev pub GoesUp : ℕ → List ℕ → ReceivedBurst → List ℕ → List ℕ → ℕ → ℕ → ℕ → Type 0
+GoesUp mode area answer after frame mended differing worst =
+    (ofReceivedA (answer .answer) ≡ accepted mended differing worst) × (after ≡ frame ++ drop (bytesA mode) area)
 
 module _ (mode : ℕ) (is qs : List ℤ) (area : List ℕ) (call : Legal mode is qs area) (answer : ReceivedBurst) (after : List ℕ)
     (receiving : ReceivingA mode is qs area answer after) (frame : List ℕ) (bytes : Bytes frame) (long : length frame ≡ bytesA mode) where
@@ -284,16 +307,17 @@ module _ (mode : ℕ) (is qs : List ℤ) (area : List ℕ) (call : Legal mode is
 
   -- each block sent differs from the one received in no more places than may differ
   abbrev Near : Type 0
-  Near = (block : ℕ) → block < 2 → differ (blockAt rowBits block (codedA mode frame)) (blockAt rowBits block word) ≤ wireA mode .mends
+  Near = (block : ℕ) → block < 2 → countAt rowBits block (codedA mode frame) word ≤ wireA mode .mends
 
   -- it is answered so, with the places of each half
   pub answered-near : Near → NoNoise (dibits (received 2 is qs))
-      → (answer ≡ burstOf (differ (codedA mode frame) word) (protectedDiffering (dibits (received 2 is qs)))
+      → (answer ≡ burstOf (total (wireA mode) word frame) (protectedDiffering (dibits (received 2 is qs))) (worst (wireA mode) word frame)
       (placesIn 0 mode frame word) (placesIn 1 mode frame word))
       × (after ≡ frame ++ drop (bytesA mode) area)
   answered-near near few =
       let bits = dibits (received 2 is qs) in
-      let made = burstOf (differ (codedA mode frame) word) (protectedDiffering bits) (placesIn 0 mode frame word) (placesIn 1 mode frame word) in
+      let made = burstOf (total (wireA mode) word frame) (protectedDiffering bits) (worst (wireA mode) word frame) (placesIn 0 mode frame word)
+      (placesIn 1 mode frame word) in
       let left = frame ++ drop (bytesA mode) area in
       let P : Checked Unit → Type 0 = λ k. Receives k mode bits area made left in
       let there : ReceivingA mode is qs area made left
@@ -302,13 +326,13 @@ module _ (mode : ℕ) (is qs : List ℤ) (area : List ℕ) (call : Legal mode is
       receive-a-once area answer made after left mode is qs receiving there
 
   pub up-when-near : Near → NoNoise (dibits (received 2 is qs))
-      → GoesUp mode area answer after frame (differ (codedA mode frame) word) (protectedDiffering (dibits (received 2 is qs)))
+      → GoesUp mode area answer after frame (total (wireA mode) word frame) (protectedDiffering (dibits (received 2 is qs))) (worst (wireA mode) word frame)
   up-when-near near few = let same = answered-near near few in (ap (λ (r : ReceivedBurst). ofReceivedA (r .answer)) (same .0), same .1)
 
-  pub near-when-up : (mended differing : ℕ) → GoesUp mode area answer after frame mended differing → Near × NoNoise (dibits (received 2 is qs))
-  near-when-up mended differing up = (
-    up-fits mode is qs area answer after receiving mended differing (up .0) frame long (up .1) .near,
-    goes mode is qs area answer after receiving mended differing (up .0) .1,
+  pub near-when-up : (mended differing worst : ℕ) → GoesUp mode area answer after frame mended differing worst → Near × NoNoise (dibits (received 2 is qs))
+  near-when-up mended differing worst up = (
+    up-fits mode is qs area answer after receiving mended differing worst (up .0) frame long (up .1) .near,
+    goes mode is qs area answer after receiving mended differing worst (up .0) .1,
   )
 
 -- ---- clean points
@@ -334,20 +358,20 @@ module _ (mode : ℕ) (frame : List ℕ) (known : mode ≤ 1) (long : length fra
   }
 
   came-back : Bytes frame → (answer : ReceivedBurst) (after : List ℕ) → ReceivingA mode (sentI mode frame ++ is) (sentQ mode frame ++ qs) area answer after
-      → (answer ≡ burstOf 0 0 [] []) × (after ≡ frame ++ drop (bytesA mode) area)
+      → (answer ≡ burstOf 0 0 0 [] []) × (after ≡ frame ++ drop (bytesA mode) area)
   came-back bytes answer after receiving =
       let word : carried (dibits points) ≡ codedA mode frame = rw same-points (carried-again mode frame known long) in
       let field : protected (dibits points) ≡ fields = rw same-points (protected-again mode frame known long) in
       let up = answered-near mode _ _ area clean-call answer after receiving frame bytes long (rw word (fits-clean (wireA mode) frame long bytes .near))
       (rw (field, differ-self fields) (omega arith)) in
-      (simp (word, field, differ-self, places-self) at (up .0), up .1)
+      (simp (word, field, differ-self, worst-self, places-self) at (up .0), up .1)
 
 module _ (mode : ℕ) (frame : List ℕ) (is qs : List ℤ) (sent : Written) (is' qs' : List ℤ) (sending : SendingA mode frame is qs sent is' qs')
-    (written : ofWritten sent ≡ accepted 0 0) (bytes : Bytes frame) (area : List ℕ) (roomy : bytesA mode ≤ length area)
+    (written : ofWritten sent ≡ accepted 0 0 0) (bytes : Bytes frame) (area : List ℕ) (roomy : bytesA mode ≤ length area)
     (answer : ReceivedBurst) (after : List ℕ) (receiving : ReceivingA mode is' qs' area answer after) where
   -- clean points give back the frame that was sent, with nothing mended, no protected bit that differs, and no place listed
-  pub round-trip : (answer ≡ burstOf 0 0 [] []) × (after ≡ frame ++ drop (bytesA mode) area)
+  pub round-trip : (answer ≡ burstOf 0 0 0 [] []) × (after ≡ frame ++ drop (bytesA mode) area)
   round-trip =
-      by-send (λ k. Sends k mode frame is qs sent is' qs' → (answer ≡ burstOf 0 0 [] []) × (after ≡ frame ++ drop (bytesA mode) area))
+      by-send (λ k. Sends k mode frame is qs sent is' qs' → (answer ≡ burstOf 0 0 0 [] []) × (after ≡ frame ++ drop (bytesA mode) area))
       (λ number place l p. absurd (not-refused written (p .0) l)) mode frame is qs
       (λ k e p. came-back mode frame k e (drop elementsA is) (drop elementsA qs) area roomy bytes answer after (rw (p .1, p .2) at receiving)) sending

@@ -1,5 +1,6 @@
 -- What sending and receiving Payload A promise: for every mode, frame, grid and lent list, the answer and what the lent lists hold after.
--- Receiving is stated by what was sent: demand 3's sentence on Payload A is `Answered`, behind `noiseChecked` (document 02, item 3).
+-- Receiving is stated by what was sent: demand 3's sentence on Payload A is `Answered`, behind `noiseChecked` (document 02, item 3). Its counts are `total` and
+-- `worst` of the frame that goes up (item 8), and the protected bits that differ.
 -- Assumes nothing.
 use mathlib.Core.Path.{_≡_}
 use mathlib.Core.Logic.{_⊎_}
@@ -13,13 +14,12 @@ use Rattle.answers.specs.Answers.{accepted, refused, ofWritten, ofBurst, accept
 use Rattle.answers.specs.Checks.{Checked, fails, passes}
 use Rattle.answers.specs.declared.Written.{Written}
 use Rattle.answers.specs.declared.ReceivedBurst.{ReceivedBurst}
-use Rattle.bits.specs.Words.{differ}
 use Rattle.bits.specs.Places.{places}
 use Rattle.bch.specs.Codes.{code3}
 use Rattle.points.specs.Dqpsk.{dibits, strayAt}
 use Rattle.symbols.specs.Grid.{subCarriers, symbolPoints}
 use Rattle.symbols.specs.Grids.{received, indexOf, firstOccupied, room}
-use Rattle.payload.specs.Wire.{Wire, blockAt, Fits, Mendable, FirstHopeless}
+use Rattle.payload.specs.Wire.{Wire, blockAt, total, worst, Fits, Mendable, FirstHopeless}
 use Rattle.payload_a.specs.Segments.{rowBits, carried, protectedDiffering, mostDiffering}
 use Rattle.payload_a.specs.CodedA.{bytesA, codedA, sentI, sentQ}
 
@@ -39,7 +39,7 @@ sendChecked mode frame is qs =
 abbrev pub Sends : Checked Unit → ℕ → List ℕ → List ℤ → List ℤ → Written → List ℤ → List ℤ → Type 0
 Sends (fails number place) mode frame is qs answer is' qs' = (ofWritten answer ≡ refused number place) × (is' ≡ is) × (qs' ≡ qs)
 Sends (passes _) mode frame is qs answer is' qs' =
-    (ofWritten answer ≡ accepted 0 0) × (is' ≡ sentI mode frame ++ drop elementsA is) × (qs' ≡ sentQ mode frame ++ drop elementsA qs)
+    (ofWritten answer ≡ accepted 0 0 0) × (is' ≡ sentI mode frame ++ drop elementsA is) × (qs' ≡ sentQ mode frame ++ drop elementsA qs)
 
 -- send A(mode, frame, I, Q): the answer, and I and Q after
 abbrev pub SendingA : ℕ → List ℕ → List ℤ → List ℤ → Written → List ℤ → List ℤ → Type 0
@@ -71,12 +71,13 @@ wireA mode = record { bytes = bytesA mode; blocks = 2; size = rowBits; mends = c
 abbrev pub placesIn : ℕ → ℕ → List ℕ → List ℕ → List ℕ
 placesIn half mode frame bits = places (blockAt rowBits half (codedA mode frame)) (blockAt rowBits half bits)
 
--- a frame that fits goes up, with the number of bits that differ, the number of protected bits that differ, and the places of each half
+-- a frame that fits goes up, with the number of bits that differ, in all and in the worse half, the number of protected bits that differ, and the places of
+-- each half
 pub record Goes (mode : ℕ) (bits : List ℕ) (differing : ℕ) (area : List ℕ) (answer : ReceivedBurst) (area' : List ℕ) : Type 0 where
   pub frame : List ℕ
   pub fits : Fits (wireA mode) bits frame
   pub tells : ofBurst answer
-      ≡ acceptedBurst (differ (codedA mode frame) bits) differing (placesIn 0 mode frame bits) (placesIn 1 mode frame bits)
+      ≡ acceptedBurst (total (wireA mode) bits frame) differing (worst (wireA mode) bits frame) (placesIn 0 mode frame bits) (placesIn 1 mode frame bits)
   pub left : area' ≡ frame ++ drop (bytesA mode) area
 
 -- a coded block has no codeword within 16, and every block before it has one

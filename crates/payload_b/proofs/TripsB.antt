@@ -1,5 +1,5 @@
 -- Payload B there and back: a frame goes up exactly when each block of it is within t; where points are accepted, sending the frame again gives the
--- bits received but for those counted; and clean points give the frame that was sent, in every mode and scheme (demand 2).
+-- bits received but for those counted, in all and in the worst block; and clean points give the frame that was sent, in every mode and scheme (demand 2; document 02, item 8).
 -- Assumes nothing.
 use mathlib.Core.Path.{_≡_, refl, sym, ap, ap₂, _∙_}
 use mathlib.Core.Logic.{inl, inr}
@@ -16,8 +16,8 @@ use Rattle.answers.specs.Checks.{Checked, fails, passes}
 use Rattle.answers.specs.declared.Told.{Told}
 use Rattle.answers.specs.declared.Written.{Written}
 use Rattle.answers.specs.declared.ReceivedB.{ReceivedB}
-use Rattle.answers.specs.declared.ReceivedB.the-variants.{Accepted}
-use Rattle.answers.proofs.Telling.{received-b-same, by-test, not-refused}
+use Rattle.answers.specs.declared.ReceivedB.the-variants.{Accepted, Refused}
+use Rattle.answers.proofs.Telling.{because-is, received-b-same, by-test, not-refused}
 use Rattle.bits.specs.Words.{Bits, differ}
 use Rattle.bits.specs.Bytes.{Bytes}
 use Rattle.bits.proofs.Distances.{differ-self}
@@ -29,8 +29,9 @@ use Rattle.symbols.specs.Grids.{received, firstOccupied, room}
 use Rattle.symbols.proofs.Rooms.{room-enough}
 use Rattle.symbols.proofs.Readings.{received-take, occupied-take}
 use Rattle.symbols.proofs.Placings.{length-placed, placed-occupied, received-placed}
-use Rattle.payload.specs.Wire.{blockAt}
+use Rattle.payload.specs.Wire.{countAt, worstOf, total, worst}
 use Rattle.payload.proofs.Wires.{fits-clean}
+use Rattle.payload.proofs.LineQuality.{Quality, quality, quality-told, none-mended, worst-self}
 use Rattle.payload_b.specs.CodedB.{blockBits, blocksIn, bitsFor, codedB, sumOf, symbolsFor, repeated, mapped, filledUp, pointsB, sentB, labelled}
 use Rattle.payload_b.specs.PromiseB.{SendsB, SendingB, strayIn, gridChecked, bitsReceived, mendsB, wireB, GoesB, ReceivesB, ReceivingB}
 use Rattle.payload_b.specs.PlanB.{Sendable}
@@ -39,7 +40,7 @@ use Rattle.payload_b.proofs.Mapping.{length-mapped, entries-repeated, p
 use Rattle.payload_b.proofs.Plans.{symbols-hold}
 use Rattle.payload_b.proofs.Blockwise.{bits-codedB, length-coded}
 use Rattle.payload_b.proofs.VerdictsB.{receivable, legal}
-use Rattle.payload_b.proofs.OnceB.{by-plan, receive-b-once}
+use Rattle.payload_b.proofs.OnceB.{by-plan, length-bits, receive-b-once}
 
 -- ---- what is sent for a frame, read back
 
@@ -94,7 +95,7 @@ module _ (mode : ℕ) (frame scheme : List ℕ) where
 -- ---- where points are accepted
 
 module _ (mode n : ℕ) (scheme : List ℕ) (is qs : List ℤ) (area : List ℕ) (answer : ReceivedB) (after : List ℕ)
-    (receiving : ReceivingB mode n scheme is qs area answer after) (mended : ℕ) (tells : ofReceivedB answer ≡ accepted mended 0) where
+    (receiving : ReceivingB mode n scheme is qs area answer after) (mended worst : ℕ) (tells : ofReceivedB answer ≡ accepted mended 0 worst) where
   abbrev bits : List ℕ
   bits = bitsReceived mode n scheme is qs
 
@@ -127,8 +128,16 @@ module _ (mode n : ℕ) (scheme : List ℕ) (is qs : List ℤ) (area : List ℕ)
   up-is : take n after ≡ goes .1 .frame
   up-is = ap (take n) (goes .1 .left) ∙ take-at (goes .1 .frame) (drop n area) n (goes .1 .fits .long)
 
-  -- sending that frame again gives the bits received, but for those counted as mended
-  pub sent-again : differ (bitsReceived mode n scheme (sentB levelI mode (take n after) scheme) (sentB levelQ mode (take n after) scheme)) bits ≡ mended
+  -- its checks pass
+  pub up-sendable : Sendable mode n scheme
+  up-sendable = goes .0
+
+  -- the bits that sending that frame again gives
+  abbrev resent : List ℕ
+  resent = bitsReceived mode n scheme (sentB levelI mode (take n after) scheme) (sentB levelQ mode (take n after) scheme)
+
+  -- they are the bits received, but for those counted as mended, in all and in the worst block
+  pub sent-again : (differ resent bits ≡ mended) × (worstOf (blockBits mode) (blocksIn mode n) resent bits ≡ worst)
   sent-again =
       let f = goes .1 .frame in
       let long = goes .1 .fits .long in
@@ -137,7 +146,28 @@ module _ (mode n : ℕ) (scheme : List ℕ) (is qs : List ℤ) (area : List ℕ)
       = λ level. take-all many (sentB level mode f scheme) (omega (arith, sent-long mode f scheme level)) in
       let back : bitsReceived mode n scheme (sentB levelI mode f scheme) (sentB levelQ mode f scheme) ≡ codedB mode f
       = rw long at (bits-back mode f scheme (rw long (goes .0)) _ _ (all levelI) (all levelQ)) in
-      rw up-is (ap (λ (w : List ℕ). differ w bits) back ∙ ap (λ (t : Told). t .mended) (sym (goes .1 .tells) ∙ tells))
+      let counts = sym (goes .1 .tells) ∙ tells in
+      rw up-is (
+        ap (λ (w : List ℕ). differ w bits) back ∙ ap (λ (t : Told). t .mended) counts,
+        ap (λ (w : List ℕ). worstOf (blockBits mode) (blocksIn mode n) w bits) back ∙ ap (λ (t : Told). t .worst) counts,
+      )
+
+  -- what both counts say of the blocks of the frame that went up
+  pub quality-b : Quality (wireB mode n) bits (take n after) mended worst
+  quality-b =
+      let f = goes .1 .frame in
+      let long = goes .1 .fits .long in
+      let counts = sym (goes .1 .tells) ∙ tells in
+      quality-told up-is (ap (λ (t : Told). t .mended) counts) (ap (λ (t : Told). t .worst) counts)
+      (quality (wireB mode n) bits f (rw long at (length-coded mode f (rw long (goes .0 .whole)))) (length-bits (goes .0) is qs) (goes .1 .fits))
+
+-- an uncoded answer counts nothing mended, accepted or refused
+pub uncoded-counts : (n : ℕ) (scheme : List ℕ) (is qs : List ℤ) (area : List ℕ) (answer : ReceivedB) (after : List ℕ)
+    → ReceivingB 0 n scheme is qs area answer after → (ofReceivedB answer .mended ≡ 0) × (ofReceivedB answer .worst ≡ 0)
+uncoded-counts n scheme is qs area (Accepted m w) after receiving =
+    none-mended (quality-b 0 n scheme is qs area (Accepted m w) after receiving m w refl) refl
+uncoded-counts n scheme is qs area (Refused why) after receiving =
+    let t = because-is why in (ap (λ (told : Told). told .mended) t, ap (λ (told : Told). told .worst) t)
 
 -- ---- a frame goes up exactly when it fits
 
@@ -150,9 +180,9 @@ pub record LegalB (mode n : ℕ) (scheme : List ℕ) (is qs : List ℤ) (area : 
   pub empty : firstOccupied is qs 0 (256 * symbolsFor mode n scheme) ≡ 256 * symbolsFor mode n scheme
   pub legal : strayIn (repeated (symbolsFor mode n scheme) scheme) (received (symbolsFor mode n scheme) is qs) ≡ 210 * symbolsFor mode n scheme
 
--- a frame goes up: the call is accepted, with so many bits mended, and the frame stands at the front of the area
-abbrev pub GoesUpB : ℕ → List ℕ → ReceivedB → List ℕ → List ℕ → ℕ → Type 0
-GoesUpB n area answer after frame mended = (ofReceivedB answer ≡ accepted mended 0) × (after ≡ frame ++ drop n area)
+-- a frame goes up: the call is accepted, with so many bits mended, in all and in the worst block, and the frame stands at the front of the area
+abbrev pub GoesUpB : ℕ → List ℕ → ReceivedB → List ℕ → List ℕ → ℕ → ℕ → Type 0
+GoesUpB n area answer after frame mended worst = (ofReceivedB answer ≡ accepted mended 0 worst) × (after ≡ frame ++ drop n area)
 
 module _ (mode n : ℕ) (scheme : List ℕ) (is qs : List ℤ) (area : List ℕ) (call : LegalB mode n scheme is qs area) (answer : ReceivedB) (after : List ℕ)
     (receiving : ReceivingB mode n scheme is qs area answer after) (frame : List ℕ) (bytes : Bytes frame) (long : length frame ≡ n) where
@@ -161,32 +191,35 @@ module _ (mode n : ℕ) (scheme : List ℕ) (is qs : List ℤ) (area : List ℕ)
 
   -- each block sent differs from the one received in at most t places
   abbrev Near : Type 0
-  Near = (b : ℕ) → b < blocksIn mode n → differ (blockAt (blockBits mode) b (codedB mode frame)) (blockAt (blockBits mode) b word) ≤ mendsB mode
+  Near = (b : ℕ) → b < blocksIn mode n → countAt (blockBits mode) b (codedB mode frame) word ≤ mendsB mode
 
-  pub up-when-near : Near → GoesUpB n area answer after frame (differ (codedB mode frame) word)
+  pub up-when-near : Near → GoesUpB n area answer after frame (total (wireB mode n) word frame) (worst (wireB mode n) word frame)
   up-when-near near =
       let m = symbolsFor mode n scheme in
-      let there : ReceivingB mode n scheme is qs area (Accepted (differ (codedB mode frame) word)) (frame ++ drop n area)
+      let there : ReceivingB mode n scheme is qs area made (frame ++ drop n area)
       = receivable P (call .sendable) is qs area (room-enough (256 * m) is qs (call .long-i) (call .long-q)) (call .room)
       (legal P m scheme is qs (omega (arith, call .empty)) (omega (arith, call .legal))
       (inl (record { frame = frame; fits = record { long = long; bytes = bytes; near = near }; tells = refl; left = refl }))) in
       let same = receive-b-once area answer _ after _ mode n scheme is qs receiving there in
       (ap ofReceivedB (same .0), same .1)
     where
-      P : Checked Unit → Type 0
-      P k = ReceivesB k mode n word area (Accepted (differ (codedB mode frame) word)) (frame ++ drop n area)
+      made : ReceivedB
+      made = Accepted (total (wireB mode n) word frame) (worst (wireB mode n) word frame)
 
-  pub near-when-up : (mended : ℕ) → GoesUpB n area answer after frame mended → Near
-  near-when-up mended up =
-      let g = goes mode n scheme is qs area answer after receiving mended (up .0) in
+      P : Checked Unit → Type 0
+      P k = ReceivesB k mode n word area made (frame ++ drop n area)
+
+  pub near-when-up : (mended worst : ℕ) → GoesUpB n area answer after frame mended worst → Near
+  near-when-up mended worst up =
+      let g = goes mode n scheme is qs area answer after receiving mended worst (up .0) in
       let same : g .1 .frame ≡ frame
-      = sym (up-is mode n scheme is qs area answer after receiving mended (up .0)) ∙ ap (take n) (up .1) ∙ take-at frame (drop n area) n long in
+      = sym (up-is mode n scheme is qs area answer after receiving mended worst (up .0)) ∙ ap (take n) (up .1) ∙ take-at frame (drop n area) n long in
       rw same at (g .1 .fits .near)
 
 -- ---- clean points
 
 module _ (mode : ℕ) (frame scheme : List ℕ) (is qs : List ℤ) (sent : Written) (is' qs' : List ℤ) (sending : SendingB mode frame scheme is qs sent is' qs')
-    (written : ofWritten sent ≡ accepted 0 0) where
+    (written : ofWritten sent ≡ accepted 0 0 0) where
   abbrev symbols : ℕ
   symbols = symbolsFor mode (length frame) scheme
 
@@ -218,7 +251,7 @@ module _ (mode : ℕ) (frame scheme : List ℕ) (is qs : List ℤ) (sent : Writt
   module _ (bytes : Bytes frame) (area : List ℕ) (roomy : length frame ≤ length area) (answer : ReceivedB) (after : List ℕ)
       (receiving : ReceivingB mode (length frame) scheme is' qs' area answer after) where
     -- clean points give back the frame that was sent, with nothing mended
-    pub round-trip : (answer ≡ Accepted 0) × (after ≡ frame ++ drop (length frame) area)
+    pub round-trip : (answer ≡ Accepted 0 0) × (after ≡ frame ++ drop (length frame) area)
     round-trip =
         let sendable = made .0 in
         let i = front levelI is is' (made .1) in
@@ -235,4 +268,6 @@ module _ (mode : ℕ) (frame scheme : List ℕ) (is qs : List ℤ) (sent : Writt
         let up = up-when-near mode (length frame) scheme is' qs' area call answer after receiving frame bytes refl
         (rw same (fits-clean (wireB mode (length frame)) frame refl bytes .near)) in
         let none : differ (codedB mode frame) (bitsReceived mode (length frame) scheme is' qs') ≡ 0 = rw same (differ-self (codedB mode frame)) in
-        (received-b-same answer (Accepted 0) (up .0 ∙ ap (λ (k : ℕ). accepted k 0) none), up .1)
+        let clean : worst (wireB mode (length frame)) (bitsReceived mode (length frame) scheme is' qs') frame ≡ 0
+        = rw same (worst-self (blockBits mode) (blocksIn mode (length frame)) (codedB mode frame)) in
+        (received-b-same answer (Accepted 0 0) (up .0 ∙ ap₂ (λ (k j : ℕ). accepted k 0 j) none clean), up .1)

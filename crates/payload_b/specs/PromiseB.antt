@@ -1,5 +1,5 @@
 -- What sending and receiving Payload B promise: for every mode, length, frame, scheme, grid and lent list, the answer and what the lent lists hold after.
--- Receiving is stated by what was sent, block by block.
+-- Receiving is stated by what was sent, block by block; its counts are `total` and `worst` of the frame that goes up (document 02, item 8).
 -- Assumes nothing.
 use mathlib.Core.Path.{_≡_}
 use mathlib.Core.Logic.{_⊎_, _≢_}
@@ -14,12 +14,11 @@ use Rattle.answers.specs.Answers.{accepted, refused, ofWritten, ofReceivedB}
 use Rattle.answers.specs.Checks.{Checked, fails, passes}
 use Rattle.answers.specs.declared.Written.{Written}
 use Rattle.answers.specs.declared.ReceivedB.{ReceivedB}
-use Rattle.bits.specs.Words.{differ}
 use Rattle.points.specs.declared.Point.{Point}
 use Rattle.points.specs.Constellations.{isStray, levelI, levelQ}
 use Rattle.symbols.specs.Grid.{subCarriers, symbolPoints}
 use Rattle.symbols.specs.Grids.{received, indexOf, firstOccupied, room}
-use Rattle.payload.specs.Wire.{Wire, Fits, FirstHopeless}
+use Rattle.payload.specs.Wire.{Wire, total, worst, Fits, FirstHopeless}
 use Rattle.payload_b.specs.CodedB.{blockBytes, blockBits, codeB, blocksIn, bitsFor, codedB, symbolsFor, repeated, sentB, pointLabel, labelled}
 
 -- ---- the checks 1, 2, 5 and 6, which both directions begin with
@@ -53,7 +52,7 @@ sendCheckedB mode frame scheme is qs =
 abbrev pub SendsB : Checked Unit → ℕ → List ℕ → List ℕ → List ℤ → List ℤ → Written → List ℤ → List ℤ → Type 0
 SendsB (fails number place) mode frame scheme is qs answer is' qs' = (ofWritten answer ≡ refused number place) × (is' ≡ is) × (qs' ≡ qs)
 SendsB (passes _) mode frame scheme is qs answer is' qs' =
-    (ofWritten answer ≡ accepted 0 0)
+    (ofWritten answer ≡ accepted 0 0 0)
     × (is' ≡ sentB levelI mode frame scheme ++ drop (subCarriers * symbolsFor mode (length frame) scheme) is)
     × (qs' ≡ sentB levelQ mode frame scheme ++ drop (subCarriers * symbolsFor mode (length frame) scheme) qs)
 
@@ -94,11 +93,11 @@ mendsB mode = cond (eqb mode 0) 0 (codeB mode .t)
 abbrev pub wireB : ℕ → ℕ → Wire
 wireB mode n = record { bytes = n; blocks = blocksIn mode n; size = blockBits mode; mends = mendsB mode; sent = codedB mode }
 
--- a frame that fits goes up, with the number of bits that differ
+-- a frame that fits goes up, with the number of bits that differ, in all and in the worst block
 pub record GoesB (mode n : ℕ) (bits area : List ℕ) (answer : ReceivedB) (area' : List ℕ) : Type 0 where
   pub frame : List ℕ
   pub fits : Fits (wireB mode n) bits frame
-  pub tells : ofReceivedB answer ≡ accepted (differ (codedB mode frame) bits) 0
+  pub tells : ofReceivedB answer ≡ accepted (total (wireB mode n) bits frame) 0 (worst (wireB mode n) bits frame)
   pub left : area' ≡ frame ++ drop n area
 
 -- a block has no codeword within t, and every block before it has one: the frame's area is all zero, and nothing beyond it is touched

@@ -4,7 +4,7 @@ use mathlib.Core.Path.{_≡_, refl, sym, ap, ap₂, _∙_}
 use mathlib.Core.Bool.{Bool, true, false}
 use mathlib.Core.List.{List, [], _++_}
 use mathlib.Core.Logic.{inl, inr}
-use Prim.Native.Nat.{ℕ, _+_, _≤_}
+use Prim.Native.Nat.{ℕ, _+_, _≤_, max}
 use native.Mathlib.Omega.{arith}
 use lib.ListN.{length, take, drop, length-append, take-append-drop}
 use lib.Seq.{take-at, drop-at, length-take-le}
@@ -21,8 +21,9 @@ use Rattle.bits.proofs.Placing.{places-self}
 use Rattle.bch.specs.Codes.{code3, encoded, Within}
 use Rattle.bch.specs.Promise.{Decoding}
 use Rattle.bch.proofs.Codewords.{by-answer, told}
-use Rattle.payload.specs.Wire.{blockAt, Fits, Mendable}
+use Rattle.payload.specs.Wire.{blockAt, countAt, worstOf, Fits, Mendable}
 use Rattle.payload.proofs.Wires.{fits-clean}
+use Rattle.payload.proofs.LineQuality.{worst-two, worst-self}
 use Rattle.payload_a.specs.Segments.{rowBits}
 use Rattle.payload_a.specs.CodedA.{information, blocksA, codedA}
 use Rattle.payload_a.specs.PromiseA.{wireA, Answered}
@@ -48,12 +49,13 @@ kept n area e = ap (λ (p : List ℕ). p ++ drop n area) e ∙ take-append-drop 
 
 -- where the bits sent are those received, none is mended
 clean : (u : ℕ) (v w : List ℕ) → v ≡ w
-    → acceptedBurst 0 u [] []
-    ≡ acceptedBurst (differ v w) u (places (blockAt rowBits 0 v) (blockAt rowBits 0 w)) (places (blockAt rowBits 1 v) (blockAt rowBits 1 w))
-clean u v w e = rw (e, differ-self w, places-self (blockAt rowBits 0 w), places-self (blockAt rowBits 1 w))
+    → acceptedBurst 0 u 0 [] []
+    ≡ acceptedBurst (differ v w) u (worstOf rowBits 2 v w) (places (blockAt rowBits 0 v) (blockAt rowBits 0 w))
+    (places (blockAt rowBits 1 v) (blockAt rowBits 1 w))
+clean u v w e = rw (e, differ-self w, worst-self rowBits 2 w, places-self (blockAt rowBits 0 w), places-self (blockAt rowBits 1 w))
 
 pub uncoded-settled : (w area : List ℕ) (u : ℕ) (right : Bool) (part : List ℕ) → length w ≡ 784 → 94 ≤ length area → Delivered w (take 94 area) right part
-    → Answered 0 w u area (settledAs right 0 u (listed []) (listed [])) (part ++ drop 94 area)
+    → Answered 0 w u area (settledAs right 0 u 0 (listed []) (listed [])) (part ++ drop 94 area)
 uncoded-settled w area u true part long room (l, bytes, sent) =
     let e : codedA 0 part ≡ w = coded-uncoded part ∙ sent in
     inl (record {
@@ -150,18 +152,29 @@ module _ {a b : List ℕ} (rows : Pair rowBits a b) (area : List ℕ) (u : ℕ) 
           sym (take-append-drop 248 s) ∙ ap₂ _++_ x y
 
       -- what it tells, for the bits that are sent
-      telling : (m : ℕ) → m ≡ differ v a + differ w b → (sent : List ℕ) → sent ≡ v ++ w
-          → acceptedBurst m u (places v a) (places w b)
-          ≡ acceptedBurst (differ sent (a ++ b)) u (places (blockAt rowBits 0 sent) (blockAt rowBits 0 (a ++ b)))
+      telling : (m k : ℕ) → m ≡ differ v a + differ w b → k ≡ max (differ v a) (differ w b) → (sent : List ℕ) → sent ≡ v ++ w
+          → acceptedBurst m u k (places v a) (places w b)
+          ≡ acceptedBurst (differ sent (a ++ b)) u (worstOf rowBits 2 sent (a ++ b)) (places (blockAt rowBits 0 sent) (blockAt rowBits 0 (a ++ b)))
           (places (blockAt rowBits 1 sent) (blockAt rowBits 1 (a ++ b)))
-      telling m em sent made =
+      telling m k em ek sent made =
           let lv = hv .codeword .long in
-          rw (made, first-block v w lv, second-block v w lv (hw .codeword .long), first-is, second-is, em, differ-append v a w b (lv ∙ sym (rows .first-long)))
+          rw (
+            made,
+            worst-two rowBits (v ++ w) (a ++ b),
+            first-block v w lv,
+            second-block v w lv (hw .codeword .long),
+            first-is,
+            second-is,
+            em,
+            ek,
+            differ-append v a w b (lv ∙ sym (rows .first-long)),
+          )
 
-      pub coded-settled : (m : ℕ) (first second part : List ℕ) (right : Bool) → m ≡ differ v a + differ w b → first ≡ listed (places v a)
+      pub coded-settled : (m k : ℕ) (first second part : List ℕ) (right : Bool) → m ≡ differ v a + differ w b → k ≡ max (differ v a) (differ w b)
+          → first ≡ listed (places v a)
           → second ≡ listed (places w b) → 58 ≤ length area → Delivered (take 248 v ++ take 248 w) (take 58 area) right part
-          → Answered 1 (a ++ b) u area (settledAs right m u first second) (part ++ drop 58 area)
-      coded-settled m first second part true em ef es room (l, bytes, sent) =
+          → Answered 1 (a ++ b) u area (settledAs right m u k first second) (part ++ drop 58 area)
+      coded-settled m k first second part true em ek ef es room (l, bytes, sent) =
           let made = rebuilt part sent in
           let lv = hv .codeword .long in
           inl (record {
@@ -169,13 +182,13 @@ module _ {a b : List ℕ} (rows : Pair rowBits a b) (area : List ℕ) (u : ℕ) 
             fits = record {
               long = l ∙ length-take-le 58 area room;
               bytes = bytes;
-              near = each-block (λ block. differ (blockAt rowBits block (codedA 1 part)) (blockAt rowBits block (a ++ b)) ≤ 16)
+              near = each-block (λ block. countAt rowBits block (codedA 1 part) (a ++ b) ≤ 16)
                   (rw (made, first-block v w lv, first-is) (hv .near)) (rw (made, second-block v w lv (hw .codeword .long), second-is) (hw .near));
             };
-            tells = rw (ef, es) (telling m em (codedA 1 part) made);
+            tells = rw (ef, es) (telling m k em ek (codedA 1 part) made);
             left = refl;
           })
-      coded-settled m first second part false em ef es room (same, none) =
+      coded-settled m k first second part false em ek ef es room (same, none) =
           inr (inr (record {
             each = λ _. each-block (λ block. Mendable code3 block (a ++ b)) first-mendable (w, rw second-is hw);
             none = λ frame fits. none frame (fits .long ∙ sym (length-take-le 58 area room)) (carries frame fits);

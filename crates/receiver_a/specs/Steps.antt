@@ -36,6 +36,6 @@ Delivered bits area true area' = (length area' ≡ length area) × Bytes area' �
 Delivered bits area false area' = (area' ≡ area) × ((frame : List ℕ) → length frame ≡ length area → information frame ≡ bits → ⊥)
 
 -- the answer for a frame that was delivered, or not
-abbrev pub settledAs : Bool → ℕ → ℕ → List ℕ → List ℕ → ReceivedBurst
-settledAs right mended differing first second =
-    cond right (record { answer = Accepted mended differing; first = first; second = second }) (noBurst WrongCheck)
+abbrev pub settledAs : Bool → ℕ → ℕ → ℕ → List ℕ → List ℕ → ReceivedBurst
+settledAs right mended differing worst first second =
+    cond right (record { answer = Accepted mended differing worst; first = first; second = second }) (noBurst WrongCheck)

@@ -19,6 +19,7 @@ use answers::PLACES;
 use answers::ReceivedA;
 use answers::ReceivedBurst;
 use answers::Refusal;
+use payload::quality;
 use payload::scrambler;
 use payload_a::ELEMENTS;
 use payload_a::check;
@@ -58,10 +59,11 @@ fn settled(
     right: bool,
     mended: usize,
     differing: usize,
+    worst: usize,
     first: [u16; PLACES],
     second: [u16; PLACES],
 ) -> ReceivedBurst
-    ensures { λ r. ⌜ r ≡ settledAs right mended differing first second ⌝ }
+    ensures { λ r. ⌜ r ≡ settledAs right mended differing worst first second ⌝ }
 {
     if !right {
         return answers::no_burst(Refusal::WrongCheck);
@@ -69,6 +71,7 @@ fn settled(
     let answer = ReceivedA::Accepted {
         mended,
         protected: differing,
+        worst,
     };
     ReceivedBurst {
         answer,
@@ -84,7 +87,7 @@ fn uncoded(rows: [[u8; BLOCK]; 2], differing: usize, area: &mut [u8]) -> Receive
 {
     let mut bits = segments::flat(rows);
     let right = deliver(&mut bits, &mut area[0..94]);
-    settled(right, 0, differing, [0; PLACES], [0; PLACES])
+    settled(right, 0, differing, 0, [0; PLACES], [0; PLACES])
 }
 
 // The information of two codewords, 248 bits of each.
@@ -124,9 +127,17 @@ fn coded(rows: [[u8; BLOCK]; 2], differing: usize, area: &mut [u8]) -> ReceivedB
     };
     let mut bits = information(&first, &second);
     let right = deliver(&mut bits, &mut area[0..58]);
+    let worst = quality::larger(in_first, in_second);
     let at_first = of_first.places;
     let at_second = of_second.places;
-    settled(right, in_first + in_second, differing, at_first, at_second)
+    settled(
+        right,
+        in_first + in_second,
+        differing,
+        worst,
+        at_first,
+        at_second,
+    )
 }
 
 // The answer for 784 bits in two rows, and so many protected bits that differ.

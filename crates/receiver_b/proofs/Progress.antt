@@ -2,52 +2,41 @@
 -- Assumes nothing.
 use mathlib.Core.Path.{_≡_, refl, sym, ap, ap₂, _∙_}
 use mathlib.Core.List.{List, [], _++_}
-use Prim.Native.Nat.{ℕ, _+_, _-_, _*_, _≤_, _<_}
+use Prim.Native.Nat.{ℕ, _+_, _-_, _*_, _≤_, _<_, max}
 use native.Mathlib.Nat.{mul-zero, zero-div, mul-mod-right}
 use native.Mathlib.Decide.{decLe}
 use native.Mathlib.Omega.{arith}
-use lib.ListN.{length, take, drop, length-append, length-drop}
-use lib.Seq.{take-all, drop-at, take-append-le, drop-append-le, take-append-add}
+use lib.ListN.{length, take, length-append}
+use lib.Seq.{take-append-add}
 use Rattle.bits.specs.Words.{differ}
 use Rattle.bits.specs.Bytes.{bitsOf}
 use Rattle.bits.proofs.Distances.{differ-self, differ-append}
 use Rattle.bits.proofs.Octets.{bytes-append}
 use Rattle.payload.specs.Scrambler.{start, scrambledFrom, registerAfter}
-use Rattle.payload.specs.Wire.{blockAt, FirstHopeless}
+use Rattle.payload.specs.Wire.{countAt, worstOf, FirstHopeless}
 use Rattle.payload.proofs.Scrambling.{register-more}
-use Rattle.payload.proofs.Wires.{one-more, fits-mendable}
+use Rattle.payload.proofs.Wires.{one-more, block-kept, block-last, fits-mendable}
+use Rattle.payload.proofs.LineQuality.{worst-more}
 use Rattle.payload_b.specs.CodedB.{blockBytes, blockBits, codeB, blockOf, codedB}
 use Rattle.payload_b.specs.PromiseB.{mendsB, wireB}
 use Rattle.payload_b.proofs.Blocks.{coded}
 use Rattle.payload_b.proofs.Blockwise.{blocks-in, coded-none, coded-more, length-codedB, length-block, codeword-b}
 use Rattle.receiver_b.specs.Steps.{NoneNear, Writes, Done}
 
--- ---- blocks of bits
-
-module _ (size : ℕ) (front more : List ℕ) (b : ℕ) where
-  -- a whole block stays as it is when more comes
-  block-kept : size * b + size ≤ length front → blockAt size b (front ++ more) ≡ blockAt size b front
-  block-kept l =
-      ap (take size) (drop-append-le (size * b) front more (omega arith))
-      ∙ take-append-le size (drop (size * b) front) more (rw length-drop (omega arith))
-
-  -- the last one
-  block-last : length front ≡ size * b → length more ≡ size → blockAt size b (front ++ more) ≡ more
-  block-last lf lm = ap (take size) (drop-at front more (size * b) lf) ∙ take-all size more (omega arith)
-
 -- ---- blocks that are mended
 
-pub done-none : (mode : ℕ) → Done mode 0 [] [] start 0
-unfolding registerAfter
+pub done-none : (mode : ℕ) → Done mode 0 [] [] start 0 0
+unfolding registerAfter worstOf
 done-none mode = record {
   long = omega arith;
   fits = rw (mul-zero (blockBytes mode)) (record { long = refl; bytes = tt; near = λ b l. absurd (omega (arith, zero-div (blockBytes mode))) });
   carried = refl;
   counted = sym (ap (λ (w : List ℕ). differ w []) (coded-none mode) ∙ differ-self []);
+  ranked = refl;
 }
 
 -- one block more
-module _ {mode m : ℕ} {bits f : List ℕ} {register k : ℕ} (d : Done mode m bits f register k)
+module _ {mode m : ℕ} {bits f : List ℕ} {register k worst : ℕ} (d : Done mode m bits f register k worst)
     {block g : List ℕ} {count after : ℕ} (w : Writes mode register block count after g) (lk : length block ≡ blockBits mode) where
   -- what is sent for it
   abbrev next : List ℕ
@@ -59,10 +48,10 @@ module _ {mode m : ℕ} {bits f : List ℕ} {register k : ℕ} (d : Done mode m 
   coded-long : length (codedB mode f) ≡ blockBits mode * m
   coded-long = length-codedB mode m f (d .fits .long)
 
-  near-more : (b : ℕ) → b < m + 1 → differ (blockAt (blockBits mode) b (codedB mode (f ++ g))) (blockAt (blockBits mode) b (bits ++ block)) ≤ mendsB mode
+  near-more : (b : ℕ) → b < m + 1 → countAt (blockBits mode) b (codedB mode (f ++ g)) (bits ++ block) ≤ mendsB mode
   near-more b l = by (decLe m b)
     where
-      by : Dec (m ≤ b) → differ (blockAt (blockBits mode) b (codedB mode (f ++ g))) (blockAt (blockBits mode) b (bits ++ block)) ≤ mendsB mode
+      by : Dec (m ≤ b) → countAt (blockBits mode) b (codedB mode (f ++ g)) (bits ++ block) ≤ mendsB mode
       by (yes h) =
           let e : b ≡ m = omega arith in
           rw (
@@ -79,7 +68,7 @@ module _ {mode m : ℕ} {bits f : List ℕ} {register k : ℕ} (d : Done mode m 
             block-kept (blockBits mode) bits block b (omega (arith, d .long)),
           ) (d .fits .near b (rw (blocks-in mode m) (omega arith)))
 
-  pub done-more : Done mode (m + 1) (bits ++ block) (f ++ g) after (k + count)
+  pub done-more : Done mode (m + 1) (bits ++ block) (f ++ g) after (k + count) (max worst count)
   done-more =
       let long = length-append f g in
       let end : 8 * length f + 8 * blockBytes mode ≡ 8 * length (f ++ g) = omega (arith, w .long) in
@@ -96,11 +85,15 @@ module _ {mode m : ℕ} {bits f : List ℕ} {register k : ℕ} (d : Done mode m 
         counted =
             ap₂ _+_ (d .counted) (w .counted)
             ∙ sym (ap (λ (v : List ℕ). differ v (bits ++ block)) coded-next ∙ differ-append (codedB mode f) bits next block (coded-long ∙ sym (d .long)));
+        ranked =
+            ap₂ max (d .ranked) (w .counted)
+            ∙ sym (ap (λ (v : List ℕ). worstOf (blockBits mode) (m + 1) v (bits ++ block)) coded-next
+            ∙ worst-more (blockBits mode) m (codedB mode f) bits next block coded-long (d .long) (length-block mode register g (w .long)) lk);
       }
 
 -- ---- the first that cannot be
 
-pub hopeless-next : {mode m : ℕ} {bits f : List ℕ} {register k : ℕ} → mode ≤ 2 → Done mode m bits f register k → {block : List ℕ}
+pub hopeless-next : {mode m : ℕ} {bits f : List ℕ} {register k worst : ℕ} → mode ≤ 2 → Done mode m bits f register k worst → {block : List ℕ}
     → length block ≡ blockBits mode → NoneNear mode block → (blocks : ℕ) → m < blocks → (more : List ℕ)
     → FirstHopeless (codeB mode) blocks (take (blockBits mode * blocks) ((bits ++ block) ++ more)) m
 hopeless-next {mode} {m} {bits} {f} known d {block} lk none blocks l more =

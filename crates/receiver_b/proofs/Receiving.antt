@@ -77,7 +77,7 @@ module _ {mode n : ℕ} {scheme : List ℕ} (plan : Sendable mode n scheme) (is 
     beyond = rw (← whole-blocks mode n (plan .whole)) at (on .1 .beyond)
 
     -- all blocks are mended
-    goes-up : Going mode (blocksIn mode n) all area' held s → GoesB mode n (bitsReceived mode n scheme is qs) area (Accepted (s .mended)) area'
+    goes-up : Going mode (blocksIn mode n) all area' held s → GoesB mode n (bitsReceived mode n scheme is qs) area (Accepted (s .mended) (s .worst)) area'
     goes-up g =
         let done : s .done ≡ blocksIn mode n = all-done (on .0) symbols-enough g in
         let size : blockBytes mode * s .done ≡ n = ap (λ (m : ℕ). blockBytes mode * m) done ∙ sym (whole-blocks mode n (plan .whole)) in
@@ -86,7 +86,7 @@ module _ {mode n : ℕ} {scheme : List ℕ} (plan : Sendable mode n scheme) (is 
         record {
           frame = take n area';
           fits = rw (size, bits) at (g .done .fits);
-          tells = ap (λ (k : ℕ). accepted k 0) (rw (size, bits) at (g .done .counted));
+          tells = ap₂ (λ (k j : ℕ). accepted k 0 j) (rw (size, bits) at (g .done .counted)) (rw (size, done, bits) at (g .done .ranked));
           left = sym (take-append-drop n area') ∙ ap (λ (w : List ℕ). take n area' ++ w) beyond;
         }
 
@@ -107,6 +107,6 @@ module _ {mode n : ℕ} {scheme : List ℕ} (plan : Sendable mode n scheme) (is 
       where
         by : (good : Bool) → Standing good mode (blocksIn mode n) all area' held s
             → ReceivesB (passes tt) mode n (bitsReceived mode n scheme is qs) area
-            (cond good (Accepted (s .mended)) (Refused (Uncorrectable (s .done)))) (cond good area' (replicate n 0 ++ drop n area'))
+            (cond good (Accepted (s .mended) (s .worst)) (Refused (Uncorrectable (s .done)))) (cond good area' (replicate n 0 ++ drop n area'))
         by true g = inl (goes-up g)
         by false k = inr (hopeless k)

@@ -3,7 +3,7 @@
 use mathlib.Core.Path.{_≡_, refl, sym, ap, subst, _∙_}
 use mathlib.Core.Bool.{Bool, true, false}
 use mathlib.Core.List.{List, [], _∷_, _++_, append-nil, append-assoc}
-use Prim.Native.Nat.{ℕ, zero, suc, _+_, _-_, _*_, _≤_, _<_}
+use Prim.Native.Nat.{ℕ, zero, suc, _+_, _-_, _*_, _≤_, _<_, max}
 use native.Mathlib.Nat.{mul-zero}
 use native.Mathlib.Decide.{decLe}
 use native.Mathlib.Numerals.{add-one}
@@ -24,15 +24,16 @@ use Rattle.receiver_b.proofs.Progress.{done-none, done-more, hopeless-n
 
 -- a bit more is in the block
 abbrev pub stored : Tally → Tally
-stored s = record { count = s .count + 1; done = s .done; register = s .register; mended = s .mended; good = true }
+stored s = record { count = s .count + 1; done = s .done; register = s .register; mended = s .mended; worst = s .worst; good = true }
 
 -- the block is mended
 abbrev pub closed : ℕ → ℕ → Tally → Tally
-closed count after s = record { count = 0; done = s .done + 1; register = after; mended = s .mended + count; good = true }
+closed count after s =
+    record { count = 0; done = s .done + 1; register = after; mended = s .mended + count; worst = max (s .worst) count; good = true }
 
 -- it cannot be
 abbrev pub lost : Tally → Tally
-lost s = record { count = 0; done = s .done; register = s .register; mended = s .mended; good = false }
+lost s = record { count = 0; done = s .done; register = s .register; mended = s .mended; worst = s .worst; good = false }
 
 -- ---- turns
 

@@ -19,7 +19,7 @@ use Rattle.bch.specs.Codes.{Within}
 use Rattle.points.specs.Lent.{ourCells, ourQuadrants}
 use Rattle.symbols.specs.Grid.{subCarriers}
 use Rattle.payload.specs.Scrambler.{start, scrambledFrom, registerAfter}
-use Rattle.payload.specs.Wire.{Fits, FirstHopeless}
+use Rattle.payload.specs.Wire.{worstOf, Fits, FirstHopeless}
 use Rattle.payload_b.specs.CodedB.{blockBytes, blockBits, codeB, blockOf, codedB, sumOf}
 use Rattle.payload_b.specs.PromiseB.{mendsB, wireB}
 use Rattle.payload_b.specs.PlanB.{Scheme, Sendable, planOf}
@@ -92,21 +92,22 @@ pub record Sane (mode blocks : ℕ) (held : List ℕ) (s : Tally) : Type 0 where
 
 -- nothing taken in yet
 abbrev pub began : Stream
-began = record { block = replicate 508 0; tally = record { count = 0; done = 0; register = start; mended = 0; good = true } }
+began = record { block = replicate 508 0; tally = record { count = 0; done = 0; register = start; mended = 0; worst = 0; good = true } }
 
--- m blocks are mended: their bits, the frame that they are sent for, the register after it, and how many bits were mended
-pub record Done (mode m : ℕ) (bits frame : List ℕ) (register count : ℕ) : Type 0 where
+-- m blocks are mended: their bits, the frame that they are sent for, the register after it, how many bits were mended, and in the worst block
+pub record Done (mode m : ℕ) (bits frame : List ℕ) (register count worst : ℕ) : Type 0 where
   pub long : length bits ≡ blockBits mode * m
   pub fits : Fits (wireB mode (blockBytes mode * m)) bits frame
   pub carried : register ≡ registerAfter (8 * length frame) start
   pub counted : count ≡ differ (codedB mode frame) bits
+  pub ranked : worst ≡ worstOf (blockBits mode) m (codedB mode frame) bits
 
 -- of the bits `fed`, each whole block is mended and the rest waits; the frame so far stands at the front of the area. Behind all blocks comes the fill
 pub record Going (mode blocks : ℕ) (fed area held : List ℕ) (s : Tally) : Type 0 where
   pub bits : List ℕ
   pub fill : List ℕ
   pub parts : fed ≡ bits ++ (take (s .count) held ++ fill)
-  pub done : Done mode (s .done) bits (take (blockBytes mode * s .done) area) (s .register) (s .mended)
+  pub done : Done mode (s .done) bits (take (blockBytes mode * s .done) area) (s .register) (s .mended) (s .worst)
   pub unfilled : s .done < blocks → fill ≡ []
 
 -- whatever comes: of the frame's blocks the next has no codeword within t, and every block before it has one
@@ -158,4 +159,4 @@ pub record Ready (cells quadrants scheme : List ℕ) (mode : ℕ) (plan : Plan) 
 
 -- the answer at the end
 abbrev pub settledB : Tally → ReceivedB
-settledB s = cond (s .good) (Accepted (s .mended)) (Refused (Uncorrectable (s .done)))
+settledB s = cond (s .good) (Accepted (s .mended) (s .worst)) (Refused (Uncorrectable (s .done)))

@@ -34,7 +34,10 @@ fn settle(s: Tally, size: usize, area: &mut [u8]) -> ReceivedB
     ensures { λ r. ⌜ (r ≡ settledB s) × (now (area .exit) ≡ cond (s .good) (now (area .entry)) (replicate size 0 ++ drop size (now (area .entry)))) ⌝ }
 {
     if s.good {
-        return ReceivedB::Accepted(s.mended);
+        return ReceivedB::Accepted {
+            mended: s.mended,
+            worst: s.worst,
+        };
     }
     clear(&mut area[0..size]);
     ReceivedB::Refused(Refusal::Uncorrectable(s.done))

@@ -11,17 +11,20 @@ ghost use Rattle.receiver_b.specs.Steps.{Sane, TakesIn, Ready, Full, Clo
 use crate::block;
 use crate::block::Finished;
 use crate::symbol;
+use payload::quality;
 use payload::scrambler;
 use payload_b::plan;
 use payload_b::plan::Plan;
 use symbols::grid::SUB_CARRIERS;
 
-// How many bits the unfinished block has, the blocks done, the scrambler's register, the bits mended; not good once a block could not be mended.
+// How many bits the unfinished block has, the blocks done, the scrambler's register, the bits mended, in all and in the worst block; not good once a block
+// could not be mended.
 pub struct Tally {
     pub count: usize,
     pub done: usize,
     pub register: u16,
     pub mended: usize,
+    pub worst: usize,
     pub good: bool,
 }
 
@@ -41,6 +44,7 @@ pub(crate) fn start() -> Stream
         done: 0,
         register: scrambler::START,
         mended: 0,
+        worst: 0,
         good: true,
     };
     Stream { block, tally }
@@ -65,14 +69,17 @@ fn close(mode: u8, from: Tally, block: &[u8], area: &mut [u8]) -> Tally
             done: from.done,
             register: from.register,
             mended: from.mended,
+            worst: from.worst,
             good: false,
         };
     };
+    let worst = quality::larger(from.worst, count);
     Tally {
         count: 0,
         done: from.done + 1,
         register,
         mended: from.mended + count,
+        worst,
         good: true,
     }
 }
@@ -103,6 +110,7 @@ fn take_bit(
         done: from.done,
         register: from.register,
         mended: from.mended,
+        worst: from.worst,
         good: true,
     };
     if next.count < size {

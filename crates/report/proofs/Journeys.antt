@@ -39,7 +39,7 @@ module _ (mode : ℕ) (frame : List ℕ) (is qs : List ℤ) (sent : Written) (is
       by : Dec (length frame ≡ bytesA mode) → ofWritten sent ≡ tripOf mode (length frame)
       by (yes e) =
           rw (eq-eqb (length frame) (bytesA mode) e)
-          (sendable (λ k. Sends k mode frame is qs sent is' qs' → ofWritten sent ≡ accepted 0 0) mode frame is qs known e
+          (sendable (λ k. Sends k mode frame is qs sent is' qs' → ofWritten sent ≡ accepted 0 0 0) mode frame is qs known e
           (room-enough elementsA is qs (omega arith) (omega arith)) (λ p. p .0) sending)
       by (no n) =
           rw (ne-eqb (length frame) (bytesA mode) n)
@@ -52,7 +52,7 @@ module _ (mode : ℕ) (frame : List ℕ) (is qs : List ℤ) (sent : Written) (is
     where
       by : Dec (length frame ≡ bytesA mode) → ofReceivedA (answer .answer) ≡ tripOf mode (length frame)
       by (yes e) =
-          let told : ofWritten sent ≡ accepted 0 0 = sent-told ∙ rw (eq-eqb (length frame) (bytesA mode) e) in
+          let told : ofWritten sent ≡ accepted 0 0 0 = sent-told ∙ rw (eq-eqb (length frame) (bytesA mode) e) in
           rw (eq-eqb (length frame) (bytesA mode) e)
           (ap (λ (r : ReceivedBurst). ofReceivedA (r .answer))
           (round-trip mode frame is qs sent is' qs' sending told (bytes-from frame bytes) area roomy answer after receiving .0))

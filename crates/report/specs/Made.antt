@@ -41,7 +41,7 @@ modeFor n = cond (eqb n 94) 0 1
 
 -- what comes of sending a frame of n bytes and receiving it back
 abbrev pub tripOf : ℕ → ℕ → Told
-tripOf mode n = cond (eqb n (bytesA mode)) (accepted 0 0) (refused 2 0)
+tripOf mode n = cond (eqb n (bytesA mode)) (accepted 0 0 0) (refused 2 0)
 
 -- a text with room for n bytes more
 pub record Room (n : ℕ) (t : Text) : Type 0 where

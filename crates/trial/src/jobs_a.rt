@@ -57,6 +57,7 @@ fn receive(mode: u8, i: &[i16], q: &[i16], area: &mut [u8]) -> bool {
     output::write_answer(told)
         && output::write_count(told.mended)
         && output::write_count(told.protected)
+        && output::write_count(told.worst)
         && output::write_places(&first)
         && output::write_places(&second)
         && output::write_list(area)

@@ -87,5 +87,8 @@ fn send(mode: u8, frame: &[u8], scheme: &[u8], i: &mut [i16], q: &mut [i16]) -> 
 // The call of job 6, and its response.
 fn receive(mode: u8, size: usize, scheme: &[u8], i: &[i16], q: &[i16], area: &mut [u8]) -> bool {
     let told = answers::of_received_b(receiver_b::receive_b(mode, size, scheme, i, q, area));
-    output::write_answer(told) && output::write_count(told.mended) && output::write_list(area)
+    output::write_answer(told)
+        && output::write_count(told.mended)
+        && output::write_count(told.worst)
+        && output::write_list(area)
 }

@@ -6,14 +6,14 @@
 // number (1 byte), its place (8 bytes), the counts that the job has (8 bytes each), of jobs 2 and 4 the places mended (16 for each word, 2 bytes each), and
 // each lent list, whole, as it stands after the call.
 //
-//   job            fields                        counts               places           lent lists
-//   1 encode       code (1 byte), word, out                                            out
-//   2 decode       code (1 byte), word, out      mended               16               out
-//   3 send A       mode (1 byte), frame, I, Q                                          I, Q
-//   4 receive A    mode (1 byte), I, Q, area     mended, protected    16 of each half  area
-//   5 send B       mode (1 byte), frame, scheme, I, Q                                  I, Q
+//   job            fields                        counts                      places           lent lists
+//   1 encode       code (1 byte), word, out                                                   out
+//   2 decode       code (1 byte), word, out      mended                      16               out
+//   3 send A       mode (1 byte), frame, I, Q                                                 I, Q
+//   4 receive A    mode (1 byte), I, Q, area     mended, protected, worst    16 of each half  area
+//   5 send B       mode (1 byte), frame, scheme, I, Q                                         I, Q
 //   6 receive B    mode (1 byte), frame length (8 bytes), scheme, I, Q, area
-//                                                mended                                area
+//                                                mended, worst                                area
 //
 // Another job byte, a list too long for its room and a request that is cut end the program after the responses so far.
 ghost use mathlib.Core.Path.{_≡_};

@@ -197,7 +197,7 @@ fn places_at_both_ends_of_a_word() {
         let (sent, last) = (code.encoded(&rng.bits(code.k)), code.n - 1);
         // Of place 0 alone only the count tells.
         let mut out = vec![7; code.n];
-        let alone = Counts { mended: 1, protected: 0, places: [[0; 16]; 2] };
+        let alone = Counts { mended: 1, ..Counts::default() };
         assert_eq!(decode(number, &flipped(&sent, &[0]), &mut out), Ok(alone));
         assert_eq!(decode(number, &sent, &mut out), Ok(Counts::default()));
         for places in [vec![], vec![0], vec![last], vec![0, last], vec![0, 1], vec![last - 1, last]] {

@@ -1,7 +1,7 @@
 //! Jobs 5 and 6: Payload B.
 
 use super::grids::{Carried, Grid};
-use super::{bytes_of_a_frame, lent, place, some_of, unknown, words, Faults};
+use super::{bytes_of_a_frame, flip, lent, place, some_of, unknown, words, Faults};
 use crate::grid::{AVAILABLE, CARRIERS};
 use crate::payload_b::{mapped, plan, Plan};
 use crate::rng::Rng;
@@ -61,11 +61,12 @@ pub fn send(rng: &mut Rng) -> Request {
 }
 
 pub fn receive(rng: &mut Rng) -> Request {
-    // A quarter are short frames that have no fault but stray points, so that these decide the answer often.
-    let (faults, frame) = if rng.once_in(4) {
-        (Faults(vec![8]), short_frame(rng))
-    } else {
-        (Faults::aim(rng, &[1, 2, 3, 5, 6, 7, 8, 9]), any_frame(rng, false))
+    // A quarter are short frames that have no fault but stray points, so that these decide the answer often; an eighth
+    // have none, and several blocks, so that the worst of them does.
+    let (faults, frame) = match rng.below(8) {
+        0 | 1 => (Faults(vec![8]), short_frame(rng)),
+        2 => (Faults(vec![]), frame_of_blocks(rng)),
+        _ => (Faults::aim(rng, &[1, 2, 3, 5, 6, 7, 8, 9]), any_frame(rng, false)),
     };
     let sent = damaged(rng, &faults, &frame);
     let mut grid = Grid::new(&mapped(&sent, &frame.scheme), Carried::Scheme(&frame.scheme));
@@ -119,6 +120,12 @@ fn short_frame(rng: &mut Rng) -> Frame {
             return frame;
         }
     }
+}
+
+/// A coded frame of three to six blocks.
+fn frame_of_blocks(rng: &mut Rng) -> Frame {
+    let (mode, blocks) = (rng.between(1, 2), rng.between(3, 6));
+    Frame { mode, scheme: any_scheme(rng, false), bytes: bytes_of_a_frame(rng, blocks * BLOCK_BYTES[mode]) }
 }
 
 /// A frame that is sent as every label of a constellation in turn.
@@ -252,12 +259,12 @@ fn damaged(rng: &mut Rng, faults: &Faults, frame: &Frame) -> Vec<u8> {
     if let Some(code) = bch::code(frame.mode as u8) {
         let blocks = sent.len() / code.n;
         let hopeless: Vec<usize> = if faults.has(9) { vec![place(rng, blocks), place(rng, blocks)] } else { vec![] };
-        let clean = rng.once_in(4);
+        let hits = mendable(rng, code.t, blocks);
         for (number, block) in sent.chunks_mut(code.n).enumerate() {
             if hopeless.contains(&number) {
                 words::make_hopeless(rng, code, block);
-            } else if !clean {
-                words::make_mendable(rng, code, block);
+            } else {
+                flip(rng, block, hits[number]);
             }
         }
     }
@@ -268,6 +275,28 @@ fn damaged(rng: &mut Rng, faults: &Faults, frame: &Frame) -> Vec<u8> {
         _ => rng.bits(fill),
     };
     [sent, tail].concat()
+}
+
+/// How many hits each block has, at most t: none, or one block alone the worst, or each as it comes.
+fn mendable(rng: &mut Rng, t: usize, blocks: usize) -> Vec<usize> {
+    match rng.below(5) {
+        0 => vec![0; blocks],
+        1 | 2 => one_worst(rng, t, blocks),
+        _ => (0..blocks).map(|_| words::mendable(rng, t)).collect(),
+    }
+}
+
+/// Hits of which the first block, the middle one, the last or any has the most, and the others often just one less.
+fn one_worst(rng: &mut Rng, t: usize, blocks: usize) -> Vec<usize> {
+    let worst = rng.between(1, t);
+    let less = |_| {
+        let any = rng.below(worst);
+        rng.pick(&[any, any, worst - 1])
+    };
+    let mut hits: Vec<usize> = (0..blocks).map(less).collect();
+    let any = rng.below(blocks);
+    hits[rng.pick(&[0, blocks / 2, blocks - 1, any])] = worst;
+    hits
 }
 
 #[cfg(test)]
@@ -286,6 +315,21 @@ mod tests {
             assert_eq!(plan(mode, long, &frame.scheme).err(), Some(Refusal::TooManySymbols));
             let wrong = wrong_length(&mut rng, frame.mode, frame.bytes.len()) as u64;
             assert_eq!(plan(mode, wrong, &frame.scheme).err(), Some(Refusal::WrongLength));
+        }
+    }
+
+    #[test]
+    fn one_block_alone_is_the_worst_and_any_can_be_it() {
+        let mut rng = Rng::new(5);
+        for (t, blocks) in [(4, 1), (4, 2), (8, 3), (8, 6)] {
+            let mut seen = vec![0; blocks];
+            for _ in 0..500 {
+                let hits = one_worst(&mut rng, t, blocks);
+                let most = *hits.iter().max().unwrap();
+                assert!((1..=t).contains(&most) && hits.iter().filter(|&&count| count == most).count() == 1);
+                seen[hits.iter().position(|&count| count == most).unwrap()] += 1;
+            }
+            assert!(seen.iter().all(|&count| count > 5), "{seen:?}");
         }
     }
 

@@ -157,11 +157,16 @@ pub fn make_hopeless(rng: &mut Rng, code: &Code, block: &mut [u8]) {
     }
 }
 
-/// A block with at most t hits, often none or t.
+/// A block with at most t hits.
 pub fn make_mendable(rng: &mut Rng, code: &Code, block: &mut [u8]) {
-    let any = rng.between(0, code.t);
-    let count = rng.pick(&[0, 0, 1, code.t, code.t, any, any]);
+    let count = mendable(rng, code.t);
     flip(rng, block, count);
+}
+
+/// How many hits such a block has: often none or t.
+pub fn mendable(rng: &mut Rng, t: usize) -> usize {
+    let any = rng.between(0, t);
+    rng.pick(&[0, 0, 1, t, t, any, any])
 }
 
 #[cfg(test)]

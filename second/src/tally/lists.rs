@@ -73,7 +73,7 @@ mod tests {
         let mut lists = Lists::of(job, choice);
         for places in answers {
             let mended = places.iter().map(|places| places.len() as u64).sum();
-            lists.add(&Counts { mended, protected: 0, places: places.map(listed) });
+            lists.add(&Counts { mended, places: places.map(listed), ..Counts::default() });
         }
         lists.to_string()
     }

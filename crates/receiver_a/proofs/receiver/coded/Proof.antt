@@ -2,7 +2,7 @@
 -- Assumes nothing.
 use mathlib.Core.Path.{_≡_, ap₂, subst, _∙_}
 use mathlib.Core.List.{List, []}
-use Prim.Native.Nat.{ℕ, _+_}
+use Prim.Native.Nat.{ℕ, _+_, max}
 use native.Mathlib.Omega.{arith}
 use lib.ListN.{getD}
 use lib.Seq.{length-take-le}
@@ -81,12 +81,13 @@ deliver-requires c κs =
 
 add-settled : tie.Need-add-settled
 add-settled c =
-    let two = c .before .before .before .before .before .before .before .before .before .before .before .before in
+    let two = c .before .before .before .before .before .before .before .before .before .before .before .before .before in
     omega (arith, first-found (one (second two)) .0 .near, first-found (one (second two)) .1, second-found two .0 .near, second-found two .1)
 
 returns-3 : tie.Need-returns-3
 returns-3 c =
-    let delivered = c .before .before .before .before .before .before in
+    let larger = c .before .before .before .larger in
+    let delivered = c .before .before .before .before .before .before .before in
     let d = delivered .deliver in
     let two = delivered .before .before .before .before .before .before .before in
     let v = first-found (one (second two)) in
@@ -95,9 +96,10 @@ returns-3 c =
     let m = one (second two) .answer .given .0 .0 + two .answer2 .given .0 .0 in
     let at-first = first (one (second two)) .decode .result .places in
     let at-second = second two .decode2 .result .places in
-    let answered : c .settled .result ≡ settledAs (d .result) m (s .args .differing) at-first at-second = c .settled .ensures in
-    rw answered (coded-settled (s .pre .0) (s .args .area .now) (s .args .differing) (v .0) (w .0) m at-first at-second (d .last .1 .0) (d .result)
-    (ap₂ _+_ (v .1) (w .1)) (v .2) (w .2) (s .pre .1)
+    let k = larger .result in
+    let answered : c .settled .result ≡ settledAs (d .result) m (s .args .differing) k at-first at-second = c .settled .ensures in
+    rw answered (coded-settled (s .pre .0) (s .args .area .now) (s .args .differing) (v .0) (w .0) m k at-first at-second (d .last .1 .0) (d .result)
+    (ap₂ _+_ (v .1) (w .1)) (larger .ensures ∙ ap₂ max (v .1) (w .1)) (v .2) (w .2) (s .pre .1)
     (rw (delivered .before .before .before .information .ensures) at (d .ensures)))
 
 pub coded-spec : {M : Type 1} → statement M
@@ -128,6 +130,7 @@ coded-spec =
     (λ c. search needs)
     (λ c. search needs)
     deliver-requires
+    (λ c κs. search needs)
     add-settled
     (λ c κs. search needs)
     (λ c. search needs)

@@ -11,7 +11,7 @@ use Rattle.receiver_a.proofs.receiver.settled.Tie as tie
 
 -- the answer, by what is right
 abbrev by : tie.Start → Bool → ReceivedBurst
-by s right = settledAs right (s .args .mended) (s .args .differing) (s .args .first) (s .args .second)
+by s right = settledAs right (s .args .mended) (s .args .differing) (s .args .worst) (s .args .first) (s .args .second)
 
 returns : tie.Need-returns
 returns c = let s = c .before .before in c .no-burst .ensures ∙ ap (by s) (sym (not-true (s .args .right) (c .before .if1 .taken)))

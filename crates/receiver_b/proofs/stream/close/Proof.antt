@@ -80,10 +80,12 @@ total c =
 
 returns-2 : tie.Need-returns-2
 returns-2 c =
-    let k = c .before .before in
+    let larger = c .before .before .larger in
+    let k = c .before .before .before in
     let e = step (finished k) in
     let at = e .block-bytes .result * first e .args .from .done in
-    closes-mended (first e .pre) (word (first e)) at (at + e .block-bytes .result) (place e) (ap (λ (n : ℕ). at + n) (e .block-bytes .ensures)) (mended k)
+    rw (larger .ensures)
+    (closes-mended (first e .pre) (word (first e)) at (at + e .block-bytes .result) (place e) (ap (λ (n : ℕ). at + n) (e .block-bytes .ensures)) (mended k))
 
 pub close-spec : {M : Type 1} → statement M
 close-spec =
@@ -103,7 +105,8 @@ close-spec =
     (λ c. search needs)
     (λ c. search needs)
     returns
-    (λ c. let s = first (step (finished (c .before))) in omega (arith, s .pre .fits, mul-le-mul-right (s .args .from .done) (block-bytes-pos (s .args .mode))))
-    (λ c. omega (arith, total (c .before .before)))
+    (λ c κs. search needs)
+    (λ c. let s = first (step (finished (c .before .before))) in omega (arith, s .pre .fits, mul-le-mul-right (s .args .from .done) (block-bytes-pos (s .args .mode))))
+    (λ c. omega (arith, total (c .before .before .before)))
     (λ c. search needs)
     returns-2)
