@@ -287,7 +287,7 @@ static void flip_b(size_t bit)
     *level = (int16_t)-*level;
 }
 
-/* Three blocks with so many hits each are mended, and the last hit of each frame is in the fill. */
+/* Three blocks with so many hits each are mended; a hit in the fill counts in none. */
 static void hit_blocks(size_t mode, size_t size, const size_t *hits, size_t worst)
 {
     sent(SEND_B, mode, size, 4 * ORTKAVEQ_SYMBOL);
@@ -304,8 +304,8 @@ static void hits_b(size_t mode)
 {
     size_t size = 3 * blocks[mode].bytes, t = blocks[mode].t;
     set_scheme(2);
-    EACH(worst, 0, 1, 2)
-        hit_blocks(mode, size, (size_t[]){*worst == 0 ? t : 1, *worst == 1 ? t : 0, *worst == 2 ? t : 2}, t);
+    EACH(block, 0, 1, 2)
+        hit_blocks(mode, size, (size_t[]){*block == 0 ? t : 1, *block == 1 ? t : 0, *block == 2 ? t : 2}, t);
     hit_blocks(mode, size, (size_t[]){t, t, t}, t);
     EACH(block, 2, 1, 0) {
         flip_b(blocks[mode].bits * *block + 400);

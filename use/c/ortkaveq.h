@@ -93,7 +93,9 @@ struct ortkaveq_answer {
 
 /*
  * Of receive, both payloads. mended and worst are the quality of the line: in how many places the coded bits received differ from those that sending the frame
- * again would give, in all and in the worst block; fill and protected bits are not counted. Uncoded, both are 0.
+ * again would give, in all and in the worst block; fill and protected bits are not counted. Uncoded, both are 0. In a refusal they are 0 too, as for a clean
+ * frame: whoever ranks lines looks at number first, and counts refusals himself. A block that became another codeword counts the bits by which it missed that
+ * one.
  */
 struct ortkaveq_received {
     uint16_t number;
@@ -151,7 +153,8 @@ struct ortkaveq_answer ortkaveq_send_a(uint8_t mode, const uint8_t *frame, size_
  * check are, even where its frame could have been mended. Else one that was sent by the earlier rule of the frame check is refused with 10.
  * Reads: the first 512 elements of i and of q. Writes: the first 94 (mode 0) or 58 (mode 1) bytes of area, the frame; all 16 of first and of second, the places
  * mended in the first and in the second half: each an index, 0 to 391, in the 392 bits that its OFDM symbol carries beside protected fields; in mode 0 all 0.
- * mended is the number of places of both, worst the number of those of the half that has more. With mended 1 and both lists all 0 it is place 0 of one of the two halves, and the answer does not say of which.
+ * mended is the number of places of both, worst of the half that has more. With mended 1 and both lists all 0 it is place 0 of one of the two halves, and the
+ * answer does not say of which.
  * Refuses with 1, 3, 7, 8, 11, 9, 10. A refusal writes nothing to area, and 0 to all of first and second; bytes of area beyond the frame keep what they held.
  */
 struct ortkaveq_received ortkaveq_receive_a(uint8_t mode, const int16_t *i, size_t i_length, const int16_t *q, size_t q_length, uint8_t *area,

@@ -1,7 +1,8 @@
 /*
  * The trial program over ortkaveq.h: reads requests from standard input, makes the calls and writes the responses to standard output. crates/trial/src/main.rt
  * has the format. What no response shows it holds itself, and aborts where that fails: that ortkaveq_symbols_b agrees with the jobs of Payload B, that a job
- * without counts has mended nothing, and that Payload B has no protected bits. Integers go in and out as they lie in memory: for little-endian machines, as both of ours are.
+ * without counts has mended nothing, and that receive B's fields are 0. Integers go in and out as they lie in memory: for little-endian machines, as both of
+ * ours are.
  */
 #include "ortkaveq.h"
 
@@ -75,7 +76,7 @@ static struct told told_a(struct ortkaveq_received a) { return (struct told){a.n
 
 static struct told told_b(struct ortkaveq_received a)
 {
-    hold(a.fields == 0, "Payload B has protected bits that differ");
+    hold(a.fields == 0, "receive B counts protected bits");
     return (struct told){a.number, a.place, {a.mended, a.worst, 0}};
 }
 

@@ -1,5 +1,5 @@
--- Number, place and counts for each answer (document 01, "Refusal numbers"; 11: document 02, item 3). In a refusal all counts are 0, and so is a count that
--- the job does not have.
+-- Number, place and counts for each answer (document 01, "Refusal numbers"; document 02: 11, item 3; the worst block's count, item 8). In a refusal all counts
+-- are 0, and so is a count that the job does not have.
 -- Of a word and of a burst also the places mended (document 02, item 10). In a refusal there are none.
 -- Assumes nothing.
 use mathlib.Core.List.{List, [], _++_}

@@ -11,7 +11,7 @@ use lib.Dec.{eqb}
 use lib.IntN.{ℤ}
 use lib.ListN.{length}
 use Rattle.answers.specs.Answers.{accepted, refused, ofWritten, ofDecoded, ofReceivedA, ofReceivedB}
-use Rattle.answers.specs.Checks.{Checked, fails, passes}
+use Rattle.answers.specs.Checks.{Checked, passes}
 use Rattle.answers.specs.declared.Told.{Told}
 use Rattle.answers.specs.declared.Written.{Written}
 use Rattle.answers.specs.declared.Written.the-variants as written
@@ -85,7 +85,7 @@ module _ (area : List ℕ) (answer : ReceivedBurst) (after : List ℕ) where
       by (receivedA.Accepted m p w) e =
           let q = quality-a mode is qs area answer after receiving m p w (ap ofReceivedA e) in
           let again = sent-again mode is qs area answer after receiving m p w (ap ofReceivedA e) in
-          few-accepted refl (omega (arith, q .high, q .near, mends-a mode)) (omega (arith, again .2)) (omega (arith, q .near, mends-a mode))
+          few-accepted refl (omega (arith, q .high, q .near, mends-a mode)) (omega (arith, again .3)) (omega (arith, q .near, mends-a mode))
       by (receivedA.Refused why) e = few-refused (because-is why)
 
 -- ---- receiving Payload B: 8 bits in each of 1,066 blocks, or 4 in each of 1,058

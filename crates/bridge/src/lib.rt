@@ -87,7 +87,7 @@ pub extern "C" fn ortkaveq_receive_a(
     let of_second = received.second;
     *first = of_first;
     *second = of_second;
-    received_of(answers::of_received_a(answer))
+    all_told(answers::of_received_a(answer))
 }
 
 // Sends a frame of Payload B by a scheme: writes 256 elements of I and of Q for each OFDM symbol needed.
@@ -116,7 +116,7 @@ pub extern "C" fn ortkaveq_receive_b(
 ) -> Received
     ensures { λ r. ⌜ ReceiveBCall mode size (now (scheme .entry)) (now (i .entry)) (now (q .entry)) (now (area .entry)) r (now (area .exit)) ⌝ }
 {
-    received_of(answers::of_received_b(receiver_b::receive_b(mode, size, scheme, i, q, area)))
+    all_told(answers::of_received_b(receiver_b::receive_b(mode, size, scheme, i, q, area)))
 }
 
 // How many OFDM symbols a frame of Payload B needs, of so many bytes, by a scheme: send and receive B ask for 256 elements of I and of Q for each.
@@ -143,8 +143,8 @@ fn answer_of(t: Told) -> Answer
     }
 }
 
-// What an answer of receiving tells, with all counts.
-fn received_of(t: Told) -> Received
+// All that an answer of receiving tells.
+fn all_told(t: Told) -> Received
     requires { ⌜ (t .mended < 2 ^ 16) × (t .protected < 2 ^ 16) × (t .worst < 2 ^ 16) ⌝ }
     ensures { λ r. ⌜ r ≡ receivedOf t ⌝ }
 {

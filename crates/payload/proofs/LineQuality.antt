@@ -1,5 +1,5 @@
 -- The quality of a line, of Payload A and of Payload B alike (document 02, item 8): the total is the sum of the counts of the blocks, the worst is the largest
--- of them, and how the two bound each other.
+-- of them, and each bounds the other.
 -- Assumes nothing.
 use mathlib.Core.Path.{_≡_, refl, sym, ap, ap₂, subst, _∙_}
 use mathlib.Core.List.{List, _++_}
@@ -36,6 +36,12 @@ module _ (size : ℕ) (sent bits : List ℕ) where
       rw (more, take-add (size * m) size sent, take-add (size * m) size bits)
       (differ-append (take (size * m) sent) (take (size * m) bits) (blockAt size m sent) (blockAt size m bits) (front ∙ sym other)
       ∙ ap (λ (k : ℕ). k + countAt size m sent bits) (differ-blocks m (omega arith) (omega arith)))
+
+  -- so of all that they are
+  pub whole-sum : (m : ℕ) → length sent ≡ size * m → length bits ≡ size * m → differ sent bits ≡ countSum size m sent bits
+  whole-sum m ls lb =
+      ap₂ differ (sym (take-all (size * m) sent (omega arith))) (sym (take-all (size * m) bits (omega arith)))
+      ∙ differ-blocks m (omega arith) (omega arith)
 
   -- ---- the worst
 
@@ -110,39 +116,38 @@ module _ (size m : ℕ) (sent bits next block : List ℕ) (ls : length sent ≡ 
       rw (add-one m)
       (ap₂ max (worst-kept m (omega arith)) (ap₂ differ (block-last size sent next m ls ln) (block-last size bits block m lb lk)))
 
--- ---- what an answer's two numbers say of the line
+-- ---- what an answer's total and worst say of the line
 
--- `mended` is what all blocks of a frame differ by from those received, together, and `worst` the most that one does
+-- all blocks of a frame together differ from those received in `mended` places, and the one that differs most in `worst`
 pub record Quality (w : Wire) (bits frame : List ℕ) (mended worst : ℕ) : Type 0 where
   pub sum : mended ≡ countSum (w .size) (w .blocks) (w .sent frame) bits
   pub each : (b : ℕ) → b < w .blocks → countAt (w .size) b (w .sent frame) bits ≤ worst
-  pub one : 0 < w .blocks → (b : ℕ) × (b < w .blocks) × (countAt (w .size) b (w .sent frame) bits ≡ worst)
+  pub one : (b : ℕ) × (b < w .blocks) × (countAt (w .size) b (w .sent frame) bits ≡ worst)
   pub low : worst ≤ mended
   pub high : mended ≤ w .blocks * worst
   pub near : worst ≤ w .mends
 
-pub quality : (w : Wire) (bits frame : List ℕ) → length (w .sent frame) ≡ w .size * w .blocks → length bits ≡ w .size * w .blocks → Fits w bits frame
-    → Quality w bits frame (total w bits frame) (worst w bits frame)
-quality w bits frame ls lb fits =
+-- of a frame that fits, with one block or more
+pub quality : (w : Wire) (bits frame : List ℕ) → 0 < w .blocks → length (w .sent frame) ≡ w .size * w .blocks → length bits ≡ w .size * w .blocks
+    → Fits w bits frame → Quality w bits frame (total w bits frame) (worst w bits frame)
+quality w bits frame some ls lb fits =
     let sent = w .sent frame in
-    let all : total w bits frame ≡ countSum (w .size) (w .blocks) sent bits
-    = ap₂ differ (sym (take-all (w .size * w .blocks) sent (omega arith))) (sym (take-all (w .size * w .blocks) bits (omega arith)))
-    ∙ differ-blocks (w .size) sent bits (w .blocks) (omega arith) (omega arith) in
+    let all = whole-sum (w .size) sent bits (w .blocks) ls lb in
     record {
       sum = all;
       each = each-within (w .size) sent bits (w .blocks);
-      one = one-has (w .size) sent bits (w .blocks);
+      one = one-has (w .size) sent bits (w .blocks) some;
       low = omega (arith, all, worst-in-sum (w .size) sent bits (w .blocks));
       high = omega (arith, all, sum-in-worst (w .size) sent bits (w .blocks));
       near = worst-most (w .size) sent bits (w .blocks) (w .mends) (fits .near);
     }
 
--- and so of numbers that are these, and of a frame that is that one
-pub quality-told : {w : Wire} {bits frame up : List ℕ} {mended most : ℕ} → up ≡ frame → total w bits frame ≡ mended → worst w bits frame ≡ most
-    → Quality w bits frame (total w bits frame) (worst w bits frame) → Quality w bits up mended most
-quality-told {w} {bits} {frame} {up} {mended} {most} eu em ek q =
-    subst (λ (g : List ℕ). Quality w bits g mended most) (sym eu)
-    (subst (λ (k : ℕ). Quality w bits frame mended k) ek (subst (λ (k : ℕ). Quality w bits frame k (worst w bits frame)) em q))
+-- the same of counts that are these, and of a frame that is that one
+pub quality-told : {w : Wire} {bits frame up : List ℕ} {mended largest : ℕ} → up ≡ frame → total w bits frame ≡ mended → worst w bits frame ≡ largest
+    → Quality w bits frame (total w bits frame) (worst w bits frame) → Quality w bits up mended largest
+quality-told {w} {bits} {frame} {up} {mended} {largest} eu em ew q =
+    subst (λ (g : List ℕ). Quality w bits g mended largest) (sym eu)
+    (subst (λ (k : ℕ). Quality w bits frame mended k) ew (subst (λ (k : ℕ). Quality w bits frame k (worst w bits frame)) em q))
 
 -- where none may differ, none does
 pub none-mended : {w : Wire} {bits frame : List ℕ} {mended worst : ℕ} → Quality w bits frame mended worst → w .mends ≡ 0 → (mended ≡ 0) × (worst ≡ 0)

@@ -1,17 +1,17 @@
 -- Payload A there and back: a frame goes up exactly when it fits and the burst is no noise; where points are accepted, sending the frame again gives the bits
--- received but for those counted, in all and in the worse half; and clean points give the frame that was sent (demands 2 and 3; document 02, items 3, 8, 10).
+-- received but for those counted, in all and in the worst block; and clean points give the frame that was sent (demands 2 and 3; document 02, items 3, 8, 10).
 -- Assumes nothing.
 use mathlib.Core.Path.{_≡_, refl, sym, ap, ap₂, _∙_}
 use mathlib.Core.Logic.{inl, inr}
 use mathlib.Core.Bool.{true, _&&_}
 use mathlib.Core.List.{List, [], _++_}
-use Prim.Native.Nat.{ℕ, _+_, _*_, _≤_, _<_, max}
+use Prim.Native.Nat.{ℕ, _+_, _*_, _≤_, _<_}
 use native.Mathlib.Omega.{arith}
 use borrow.Author.Tests.{leb-true, eqb-true, ltb-false}
 use lib.Dec.{eqb, leb, ltb}
 use lib.IntN.{ℤ}
-use lib.ListN.{length, take, drop, length-append, length-drop, take-append-drop}
-use lib.Seq.{take-at, take-all, length-take-le}
+use lib.ListN.{length, take, drop, length-append, length-drop}
+use lib.Seq.{take-at, length-take-le}
 use Rattle.answers.specs.Answers.{accepted, ofWritten, ofReceivedA, listed, ToldBurst, ofBurst, refusedBurst}
 use Rattle.answers.specs.Checks.{Checked, fails, passes}
 use Rattle.answers.specs.declared.Told.{Told}
@@ -24,7 +24,7 @@ use Rattle.bits.specs.Words.{Bits, differ}
 use Rattle.bits.specs.Places.{places}
 use Rattle.bits.specs.Bytes.{Bytes}
 use Rattle.bits.proofs.Digits.{bits-take, bits-drop}
-use Rattle.bits.proofs.Distances.{differ-self, differ-zero, differ-append}
+use Rattle.bits.proofs.Distances.{differ-self, differ-zero}
 use Rattle.bits.proofs.Placing.{places-self}
 use Rattle.points.specs.declared.Point.{Point}
 use Rattle.points.specs.Constellations.{levelI, levelQ}
@@ -37,7 +37,7 @@ use Rattle.symbols.proofs.Rooms.{room-enough}
 use Rattle.bch.proofs.Listings.{Names, names}
 use Rattle.payload.specs.Wire.{blockAt, countAt, worstOf, total, worst, Fits}
 use Rattle.payload.proofs.Wires.{fits-clean}
-use Rattle.payload.proofs.LineQuality.{Quality, quality, quality-told, none-mended, worst-two, worst-self}
+use Rattle.payload.proofs.LineQuality.{countSum, whole-sum, Quality, quality, quality-told, none-mended, worst-self}
 use Rattle.payload_a.specs.Segments.{rowBits, framed, carried, protected, fields, protectedDiffering, mostDiffering}
 use Rattle.payload_a.specs.CodedA.{bytesA, codedA, pointsA, sentI, sentQ}
 use Rattle.payload_a.specs.PromiseA.{elementsA, pointCountA, sendChecked, Sends, SendingA}
@@ -123,16 +123,9 @@ module _ (mode : ℕ) (frame : List ℕ) (known : mode ≤ 1) (long : length fra
 half-long : (b : ℕ) → b < 2 → (l : List ℕ) → length l ≡ 784 → length (blockAt rowBits b l) ≡ 392
 half-long b low l e = length-take-le 392 (drop (392 * b) l) (omega (arith, length-drop (392 * b) l))
 
-both-halves : (l : List ℕ) → length l ≡ 784 → l ≡ blockAt rowBits 0 l ++ blockAt rowBits 1 l
-both-halves l e =
-    sym (take-append-drop 392 l) ∙ ap (λ (r : List ℕ). take 392 l ++ r) (sym (take-all 392 (drop 392 l) (omega (arith, length-drop 392 l))))
-
-differ-halves : (v w : List ℕ) → length v ≡ 784 → length w ≡ 784
-    → differ (blockAt rowBits 0 v) (blockAt rowBits 0 w) + differ (blockAt rowBits 1 v) (blockAt rowBits 1 w) ≡ differ v w
-differ-halves v w ev ew =
-    sym (ap₂ differ (both-halves v ev) (both-halves w ew)
-    ∙ differ-append (blockAt rowBits 0 v) (blockAt rowBits 0 w) (blockAt rowBits 1 v) (blockAt rowBits 1 w)
-    (half-long 0 (omega arith) v ev ∙ sym (half-long 0 (omega arith) w ew)))
+differ-halves : (v w : List ℕ) → length v ≡ 784 → length w ≡ 784 → countAt rowBits 0 v w + countAt rowBits 1 v w ≡ differ v w
+unfolding countSum
+differ-halves v w ev ew = let all = whole-sum rowBits v w 2 ev ew in omega (arith, all)
 
 half-bits : (b : ℕ) (l : List ℕ) → Bits l → Bits (blockAt rowBits b l)
 half-bits b l bits = bits-take 392 (drop (392 * b) l) (bits-drop (392 * b) l bits)
@@ -172,17 +165,25 @@ module _ (mode : ℕ) (is qs : List ℤ) (area : List ℕ) (answer : ReceivedBur
   up-fits : (frame : List ℕ) → length frame ≡ bytesA mode → after ≡ frame ++ drop (bytesA mode) area → Fits (wireA mode) (carried bits) frame
   up-fits frame long left = rw (sym up-is ∙ in-front frame long left) at (goes .2 .fits)
 
-  -- sending the frame that went up again gives the bits received, but for the bits counted as mended and the protected bits counted, at most 12
+  -- the bits that sending the frame that went up again gives
+  abbrev resent : List ℕ
+  resent = carried (again mode (take (bytesA mode) after))
+
+  -- they are the bits received, but for those counted as mended, in all and in the worst block; so are its protected bits, but for those counted, at most 12
   pub sent-again :
-      (differ (carried (again mode (take (bytesA mode) after))) (carried bits) ≡ mended)
+      (differ resent (carried bits) ≡ mended) × (worstOf rowBits 2 resent (carried bits) ≡ worst)
       × (differ (protected (again mode (take (bytesA mode) after))) (protected bits) ≡ differing) × (differing ≤ mostDiffering)
   sent-again =
       let counts = sym (burst-told answer (goes .2 .tells)) ∙ tells in
       let fieldsCounted = ap (λ (told : Told). told .protected) counts in
       let f = goes .2 .frame in
       let long = goes .2 .fits .long in
-      rw (up-is, carried-again mode f (goes .0) long, protected-again mode f (goes .0) long)
-      (ap (λ (told : Told). told .mended) counts, fieldsCounted, rw fieldsCounted at (goes .1))
+      rw (up-is, carried-again mode f (goes .0) long, protected-again mode f (goes .0) long) (
+        ap (λ (told : Told). told .mended) counts,
+        ap (λ (told : Told). told .worst) counts,
+        fieldsCounted,
+        rw fieldsCounted at (goes .1),
+      )
 
   -- in how many places a half differs from the one received
   abbrev hitsIn : ℕ → List ℕ → ℕ
@@ -192,14 +193,8 @@ module _ (mode : ℕ) (is qs : List ℤ) (area : List ℕ) (answer : ReceivedBur
   abbrev Located : ℕ → List ℕ → List ℕ → Type 0
   Located half list sent = Names list (blockAt rowBits half (carried bits)) (blockAt rowBits half sent) (hitsIn half sent)
 
-  -- the bits that sending again gives
-  abbrev resent : List ℕ
-  resent = carried (again mode (take (bytesA mode) after))
-
-  -- of both halves together as many as are counted, and in the worse one as many as the worst
-  pub sent-places :
-      Located 0 (answer .first) resent × Located 1 (answer .second) resent × (hitsIn 0 resent + hitsIn 1 resent ≡ mended)
-      × (max (hitsIn 0 resent) (hitsIn 1 resent) ≡ worst)
+  -- of both halves together as many as are counted
+  pub sent-places : Located 0 (answer .first) resent × Located 1 (answer .second) resent × (hitsIn 0 resent + hitsIn 1 resent ≡ mended)
   sent-places =
       let f = goes .2 .frame in
       let long = goes .2 .fits .long in
@@ -209,7 +204,6 @@ module _ (mode : ℕ) (is qs : List ℤ) (area : List ℕ) (answer : ReceivedBur
         half 1 (omega arith) (ap (λ (t : ToldBurst). t .second) (goes .2 .tells)),
         differ-halves (codedA mode f) (carried bits) (length-codedA mode f (goes .0) long) (length-carried bits (length-read is qs))
             ∙ ap (λ (told : Told). told .mended) counts,
-        sym (worst-two rowBits (codedA mode f) (carried bits)) ∙ ap (λ (told : Told). told .worst) counts,
       )
     where
       half : (b : ℕ) → b < 2 → {list : List ℕ} → list ≡ listed (placesIn b mode (goes .2 .frame) (carried bits))
@@ -221,14 +215,14 @@ module _ (mode : ℕ) (is qs : List ℤ) (area : List ℕ) (answer : ReceivedBur
           (half-long b l (codedA mode f) (length-codedA mode f (goes .0) (goes .2 .fits .long))
           ∙ sym (half-long b l (carried bits) (length-carried bits (length-read is qs))))
 
-  -- what both counts say of the blocks of the frame that went up
+  -- what mended and worst say of the blocks of the frame that went up
   pub quality-a : Quality (wireA mode) (carried bits) (take (bytesA mode) after) mended worst
   quality-a =
       let f = goes .2 .frame in
       let long = goes .2 .fits .long in
       let counts = sym (burst-told answer (goes .2 .tells)) ∙ tells in
       quality-told up-is (ap (λ (told : Told). told .mended) counts) (ap (λ (told : Told). told .worst) counts)
-      (quality (wireA mode) (carried bits) f (length-codedA mode f (goes .0) long) (length-carried bits (length-read is qs)) (goes .2 .fits))
+      (quality (wireA mode) (carried bits) f (omega arith) (length-codedA mode f (goes .0) long) (length-carried bits (length-read is qs)) (goes .2 .fits))
 
 -- an uncoded answer lists no place and counts nothing mended, accepted or refused
 module _ (is qs : List ℤ) (area : List ℕ) (answer : ReceivedBurst) (after : List ℕ) where
@@ -294,7 +288,7 @@ module _ {mode : ℕ} {is qs : List ℤ} {area : List ℕ} (call : Legal mode is
       let P : Checked Unit → Type 0 = λ k. Receives k mode bits area answer after → RefusedWith 11 area answer after in
       checks-left P (noise P bits l (λ p. p)) receiving
 
--- a frame goes up: the call is accepted, with so many bits mended, so many protected bits that differ and so many bits mended in the worse half, and the frame
+-- a frame goes up: the call is accepted, with so many bits mended, so many protected bits that differ and so many bits mended in the worst block, and the frame
 -- stands at the front of the area
 abbrev pub GoesUp : ℕ → List ℕ → ReceivedBurst → List ℕ → List ℕ → ℕ → ℕ → ℕ → Type 0
 GoesUp mode area answer after frame mended differing worst =

@@ -71,7 +71,7 @@ wireA mode = record { bytes = bytesA mode; blocks = 2; size = rowBits; mends = c
 abbrev pub placesIn : ℕ → ℕ → List ℕ → List ℕ → List ℕ
 placesIn half mode frame bits = places (blockAt rowBits half (codedA mode frame)) (blockAt rowBits half bits)
 
--- a frame that fits goes up, with the number of bits that differ, in all and in the worse half, the number of protected bits that differ, and the places of
+-- a frame that fits goes up, with the number of bits that differ, in all and in the worst block, the number of protected bits that differ, and the places of
 -- each half
 pub record Goes (mode : ℕ) (bits : List ℕ) (differing : ℕ) (area : List ℕ) (answer : ReceivedBurst) (area' : List ℕ) : Type 0 where
   pub frame : List ℕ

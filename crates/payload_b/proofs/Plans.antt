@@ -4,8 +4,8 @@ use mathlib.Core.Path.{_≡_, refl}
 use mathlib.Core.Logic.{_≢_}
 use mathlib.Core.Bool.{and-false}
 use mathlib.Core.List.{List}
-use Prim.Native.Nat.{ℕ, _+_, _-_, _*_, _/_, _%_, _≤_, _<_}
-use native.Mathlib.Nat.{mod-lt, div-add-mod}
+use Prim.Native.Nat.{ℕ, zero, suc, _+_, _-_, _*_, _/_, _%_, _≤_, _<_}
+use native.Mathlib.Nat.{mod-lt, div-add-mod, mul-zero}
 use native.Mathlib.Omega.{arith}
 use borrow.Author.Tests.{le-leb, lt-leb, lt-ltb, le-ltb, eq-eqb, ne-eqb}
 use lib.Dec.{ltb}
@@ -25,6 +25,14 @@ rounded-up a b p = omega (arith, div-add-mod (a + (b - 1)) b, mod-lt (a + (b - 1
 -- bytes without remainder are those of their blocks
 pub whole-blocks : (mode n : ℕ) → n % blockBytes mode ≡ 0 → n ≡ blockBytes mode * blocksIn mode n
 whole-blocks mode n e = omega (arith, div-add-mod n (blockBytes mode))
+
+-- there is one
+pub some-blocks : {mode n : ℕ} {scheme : List ℕ} → Sendable mode n scheme → 0 < blocksIn mode n
+some-blocks {mode} {n} plan = by (blocksIn mode n) (whole-blocks mode n (plan .whole)) (plan .some)
+  where
+    by : (b : ℕ) → n ≡ blockBytes mode * b → 0 < n → 0 < b
+    by zero e some = absurd (omega (arith, e, mul-zero (blockBytes mode)))
+    by (suc b) e some = omega arith
 
 -- the OFDM symbols hold the coded bits
 pub symbols-hold : {mode n : ℕ} {scheme : List ℕ} → Sendable mode n scheme → bitsFor mode n ≤ sumOf scheme * symbolsFor mode n scheme

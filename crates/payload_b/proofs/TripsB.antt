@@ -1,5 +1,6 @@
 -- Payload B there and back: a frame goes up exactly when each block of it is within t; where points are accepted, sending the frame again gives the
--- bits received but for those counted, in all and in the worst block; and clean points give the frame that was sent, in every mode and scheme (demand 2; document 02, item 8).
+-- bits received but for those counted, in all and in the worst block; and clean points give the frame that was sent, in every mode and scheme (demand 2;
+-- document 02, item 8).
 -- Assumes nothing.
 use mathlib.Core.Path.{_≡_, refl, sym, ap, ap₂, _∙_}
 use mathlib.Core.Logic.{inl, inr}
@@ -37,7 +38,7 @@ use Rattle.payload_b.specs.PromiseB.{SendsB, SendingB, strayIn, gridChec
 use Rattle.payload_b.specs.PlanB.{Sendable}
 use Rattle.payload_b.proofs.Schemes.{sum-repeated, repeated-long}
 use Rattle.payload_b.proofs.Mapping.{length-mapped, entries-repeated, points-mapped, stray-mapped, labelled-mapped}
-use Rattle.payload_b.proofs.Plans.{symbols-hold}
+use Rattle.payload_b.proofs.Plans.{some-blocks, symbols-hold}
 use Rattle.payload_b.proofs.Blockwise.{bits-codedB, length-coded}
 use Rattle.payload_b.proofs.VerdictsB.{receivable, legal}
 use Rattle.payload_b.proofs.OnceB.{by-plan, length-bits, receive-b-once}
@@ -128,7 +129,7 @@ module _ (mode n : ℕ) (scheme : List ℕ) (is qs : List ℤ) (area : List ℕ)
   up-is : take n after ≡ goes .1 .frame
   up-is = ap (take n) (goes .1 .left) ∙ take-at (goes .1 .frame) (drop n area) n (goes .1 .fits .long)
 
-  -- its checks pass
+  -- length and scheme pass the checks 1, 2, 5 and 6
   pub up-sendable : Sendable mode n scheme
   up-sendable = goes .0
 
@@ -152,14 +153,14 @@ module _ (mode n : ℕ) (scheme : List ℕ) (is qs : List ℤ) (area : List ℕ)
         ap (λ (w : List ℕ). worstOf (blockBits mode) (blocksIn mode n) w bits) back ∙ ap (λ (t : Told). t .worst) counts,
       )
 
-  -- what both counts say of the blocks of the frame that went up
+  -- what mended and worst say of the blocks of the frame that went up
   pub quality-b : Quality (wireB mode n) bits (take n after) mended worst
   quality-b =
       let f = goes .1 .frame in
       let long = goes .1 .fits .long in
       let counts = sym (goes .1 .tells) ∙ tells in
       quality-told up-is (ap (λ (t : Told). t .mended) counts) (ap (λ (t : Told). t .worst) counts)
-      (quality (wireB mode n) bits f (rw long at (length-coded mode f (rw long (goes .0 .whole)))) (length-bits (goes .0) is qs) (goes .1 .fits))
+      (quality (wireB mode n) bits f (some-blocks (goes .0)) (rw long at (length-coded mode f (rw long (goes .0 .whole)))) (length-bits (goes .0) is qs) (goes .1 .fits))
 
 -- an uncoded answer counts nothing mended, accepted or refused
 pub uncoded-counts : (n : ℕ) (scheme : List ℕ) (is qs : List ℤ) (area : List ℕ) (answer : ReceivedB) (after : List ℕ)

@@ -32,7 +32,7 @@ done-none mode = record {
   fits = rw (mul-zero (blockBytes mode)) (record { long = refl; bytes = tt; near = λ b l. absurd (omega (arith, zero-div (blockBytes mode))) });
   carried = refl;
   counted = sym (ap (λ (w : List ℕ). differ w []) (coded-none mode) ∙ differ-self []);
-  ranked = refl;
+  largest = refl;
 }
 
 -- one block more
@@ -85,8 +85,8 @@ module _ {mode m : ℕ} {bits f : List ℕ} {register k worst : ℕ} (d : Done m
         counted =
             ap₂ _+_ (d .counted) (w .counted)
             ∙ sym (ap (λ (v : List ℕ). differ v (bits ++ block)) coded-next ∙ differ-append (codedB mode f) bits next block (coded-long ∙ sym (d .long)));
-        ranked =
-            ap₂ max (d .ranked) (w .counted)
+        largest =
+            ap₂ max (d .largest) (w .counted)
             ∙ sym (ap (λ (v : List ℕ). worstOf (blockBits mode) (m + 1) v (bits ++ block)) coded-next
             ∙ worst-more (blockBits mode) m (codedB mode f) bits next block coded-long (d .long) (length-block mode register g (w .long)) lk);
       }

@@ -86,7 +86,7 @@ module _ {mode n : ℕ} {scheme : List ℕ} (plan : Sendable mode n scheme) (is 
         record {
           frame = take n area';
           fits = rw (size, bits) at (g .done .fits);
-          tells = ap₂ (λ (k j : ℕ). accepted k 0 j) (rw (size, bits) at (g .done .counted)) (rw (size, done, bits) at (g .done .ranked));
+          tells = ap₂ (λ (k j : ℕ). accepted k 0 j) (rw (size, bits) at (g .done .counted)) (rw (size, done, bits) at (g .done .largest));
           left = sym (take-append-drop n area') ∙ ap (λ (w : List ℕ). take n area' ++ w) beyond;
         }
 

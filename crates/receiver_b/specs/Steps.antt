@@ -94,13 +94,13 @@ pub record Sane (mode blocks : ℕ) (held : List ℕ) (s : Tally) : Type 0 where
 abbrev pub began : Stream
 began = record { block = replicate 508 0; tally = record { count = 0; done = 0; register = start; mended = 0; worst = 0; good = true } }
 
--- m blocks are mended: their bits, the frame that they are sent for, the register after it, how many bits were mended, and in the worst block
+-- m blocks are mended: their bits, the frame that they are sent for, the register after it, and how many bits were mended, in all and in the worst block
 pub record Done (mode m : ℕ) (bits frame : List ℕ) (register count worst : ℕ) : Type 0 where
   pub long : length bits ≡ blockBits mode * m
   pub fits : Fits (wireB mode (blockBytes mode * m)) bits frame
   pub carried : register ≡ registerAfter (8 * length frame) start
   pub counted : count ≡ differ (codedB mode frame) bits
-  pub ranked : worst ≡ worstOf (blockBits mode) m (codedB mode frame) bits
+  pub largest : worst ≡ worstOf (blockBits mode) m (codedB mode frame) bits
 
 -- of the bits `fed`, each whole block is mended and the rest waits; the frame so far stands at the front of the area. Behind all blocks comes the fill
 pub record Going (mode blocks : ℕ) (fed area held : List ℕ) (s : Tally) : Type 0 where
@@ -150,7 +150,7 @@ Closes mode area held s area' s' = (blocks : ℕ) → s .done < blocks → Takes
 -- what OFDM symbols need that are taken in, m of them
 pub record Ready (cells quadrants scheme : List ℕ) (mode : ℕ) (plan : Plan) (from : Stream) (m : ℕ) (is qs : List ℤ) (area : List ℕ) : Type 0 where
   pub lent : Lent cells quadrants scheme
-  pub total : plan .sum ≡ sumOf scheme
+  pub summed : plan .sum ≡ sumOf scheme
   pub known : mode ≤ 2
   pub sane : Sane mode (plan .blocks) (from .block) (from .tally)
   pub long-i : subCarriers * m ≤ length is

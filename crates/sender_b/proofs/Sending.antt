@@ -58,8 +58,8 @@ module _ {mode : ℕ} {frame scheme : List ℕ} {sum : ℕ} {pending₀ : List �
   pub ready : {cells : List ℕ} → cells ≡ ourCells → (more : ℕ) → bitsFor mode at + more ≤ bitsFor mode (length frame) + (sumOf scheme - 1)
       → Ready cells scheme sum s more
   ready lent more all = record {
-    sending = record { lent = lent; entries = p .passed .plan .entries; total = p .passed .total };
-    wide = omega (arith, p .passed .total, sum-most (p .passed .plan .entries), p .long);
+    sending = record { lent = lent; entries = p .passed .plan .entries; summed = p .passed .summed };
+    wide = omega (arith, p .passed .summed, sum-most (p .passed .plan .entries), p .long);
     partial = p .partial;
     room = λ m l.
         let fed : sumOf scheme * s .symbol + s .count ≡ bitsFor mode at

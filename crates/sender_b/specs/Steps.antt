@@ -19,7 +19,7 @@ use Rattle.sender_b.specs.declared.sender.Outgoing.{Outgoing}
 pub record Supplied (cells scheme : List ℕ) (sum : ℕ) : Type 0 where
   pub lent : cells ≡ ourCells
   pub entries : Scheme scheme
-  pub total : sum ≡ sumOf scheme
+  pub summed : sum ≡ sumOf scheme
 
 -- the sub-carriers of the OFDM symbol of these bits
 abbrev pub spreadOf : (Point → ℤ) → List ℕ → List ℕ → List ℤ
@@ -77,7 +77,7 @@ pub record Flushed (scheme : List ℕ) (s : State) (pending : List ℕ) (is qs :
 -- the checks of a frame pass, and this is the scheme's sum
 pub record Passed (mode : ℕ) (frame scheme : List ℕ) (sum : ℕ) (is qs : List ℤ) : Type 0 where
   pub plan : Sendable mode (length frame) scheme
-  pub total : sum ≡ sumOf scheme
+  pub summed : sum ≡ sumOf scheme
   pub room : (subCarriers * symbolsFor mode (length frame) scheme ≤ length is) × (subCarriers * symbolsFor mode (length frame) scheme ≤ length qs)
 
 -- all of it is sent

@@ -1,4 +1,4 @@
--- `answers::of_received_a` meets its contract: both counts, or the refusal.
+-- `answers::of_received_a` meets its contract: its counts, or the refusal.
 -- Assumes nothing.
 use borrow.Author.Needs.{needs}
 use Rattle.answers.proofs.of_received_a.Statement.{statement}

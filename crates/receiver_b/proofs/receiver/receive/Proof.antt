@@ -74,7 +74,7 @@ take-symbols-requires c κs =
     = ap (λ (p : Plan). blockBytes (s .args .mode) * p .blocks) (h .planned) ∙ sym (whole-blocks (s .args .mode) (s .args .size) (h .sendable .whole)) in
     record {
       lent = lent k;
-      total = ap (λ (p : Plan). p .sum) (h .planned);
+      summed = ap (λ (p : Plan). p .sum) (h .planned);
       known = h .sendable .known;
       sane = rw (c .before .start .ensures) (began-sane (s .args .mode) _);
       long-i = h .long-i;

@@ -20,7 +20,7 @@ start c = c .before .before .before
 read : (c : tie.After-read-symbol)
     → take (start c .args .plan .sum - 0) (c .read-symbol .result)
     ≡ labelled (start c .args .scheme .now) (pointsFrom (start c .args .i .now) (start c .args .q .now) 1 210)
-read c = ap (λ (n : ℕ). take n (c .read-symbol .result)) (sub-zero (start c .args .plan .sum) ∙ start c .pre .total) ∙ c .read-symbol .ensures
+read c = ap (λ (n : ℕ). take n (c .read-symbol .result)) (sub-zero (start c .args .plan .sum) ∙ start c .pre .summed) ∙ c .read-symbol .ensures
 
 take-bits-requires : tie.Need-take-bits-requires
 take-bits-requires c κs =
@@ -35,7 +35,7 @@ take-symbol-spec =
     (λ c κs. let h = c .before .before .pre in (h .lent, omega (arith, h .long-i), omega (arith, h .long-q)))
     (λ c. search needs)
     (λ c. search needs)
-    (λ c. let h = start (c .before) .pre in omega (arith, h .total, sum-most (h .lent .entries)))
+    (λ c. let h = start (c .before) .pre in omega (arith, h .summed, sum-most (h .lent .entries)))
     take-bits-requires
     (λ c. search needs)
     (λ c. rw (read (c .before .before .before .before .before .before)) at (c .before .before .take-bits .ensures)))

@@ -34,7 +34,7 @@ take-symbol-requires c κs =
     let at = 256 * l .s in
     record {
       lent = s .pre .lent;
-      total = s .pre .total;
+      summed = s .pre .summed;
       known = s .pre .known;
       sane = l .inv .1 .0;
       long-i = omega (arith, mid-len at (at + 256) (s .args .i .now) (omega (arith, s .pre .long-i)));

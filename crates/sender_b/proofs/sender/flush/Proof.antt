@@ -36,7 +36,7 @@ abbrev left : tie.After-none → ℕ
 left c = start c .args .sum - start c .args .from .count - 0
 
 few : (c : tie.After-none) → left c ≤ 2100
-few c = let s = start c .pre .sending in omega (arith, s .total, sum-most (s .entries))
+few c = let s = start c .pre .sending in omega (arith, s .summed, sum-most (s .entries))
 
 fill : (c : tie.After-none) → take (left c) (c .before .no-bits .result) ≡ replicate (left c) 0
 fill c = ap (take (left c)) (c .before .no-bits .ensures) ∙ front-zeros (left c) 2100 (few c)
@@ -57,11 +57,11 @@ returns-2 c =
     let n = push .before .before .before .before .before in
     let s = start n in
     let sum = sumOf (s .args .scheme .now) in
-    let total = s .pre .sending .total in
+    let summed = s .pre .sending .summed in
     let o = push .push .result in
     let p = rw (fill n) at (push .push .ensures .1) in
-    let whole : sum * o .symbol + o .count ≡ sum * (s .args .from .symbol + 1) = omega (arith, p .counted, total, length-replicate {A = ℕ} (left n) 0) in
-    record { zeros = left n; few = omega (arith, total); going = o; none = none-left sum _ _ _ (push .push .ensures .0) whole; pushed = p }
+    let whole : sum * o .symbol + o .count ≡ sum * (s .args .from .symbol + 1) = omega (arith, p .counted, summed, length-replicate {A = ℕ} (left n) 0) in
+    record { zeros = left n; few = omega (arith, summed); going = o; none = none-left sum _ _ _ (push .push .ensures .0) whole; pushed = p }
 
 pub flush-spec : {M : Type 1} → statement M
 flush-spec =

@@ -53,7 +53,7 @@ room c =
     let l = last c .before .before .loop in
     let s = start (last c) in
     let done = length-take-le (l .j) (s .args .bits .now) (omega arith) in
-    omega (arith, l .inv .1, s .pre .room (l .symbol + 1) (omega (arith, s .pre .sending .total, l .inv .1 .counted, done)))
+    omega (arith, l .inv .1, s .pre .room (l .symbol + 1) (omega (arith, s .pre .sending .summed, l .inv .1 .counted, done)))
 
 part-put-next-end : tie.Need-part-put-next-end Inv-loop μ-loop
 part-put-next-end c = let e = c .before .before in omega (arith, pushed e .long, start e .pre .wide)
@@ -63,7 +63,7 @@ put-next-requires c κs =
     let e = last c in
     let p = start e .pre in
     let long = length-take-le (start e .args .sum - 0) (state e .pending) (omega (arith, pushed e .long, p .wide)) in
-    (record { lent = p .sending .lent; entries = p .sending .entries; total = long ∙ omega (arith, p .sending .total) }, omega (arith, room c))
+    (record { lent = p .sending .lent; entries = p .sending .entries; summed = long ∙ omega (arith, p .sending .summed) }, omega (arith, room c))
 
 add-symbol : tie.Need-add-symbol Inv-loop μ-loop
 add-symbol c = omega (arith, room (c .before .before .before))
@@ -75,7 +75,7 @@ loop-again c =
     let same : start e .args .sum - 0 ≡ e .before .before .loop .count + 1 = omega arith in
     let put = rw same at (c .before .before .put-next .ensures) in (
       omega (arith, p .partial),
-      pushed-symbol (pushed e) (p .sending .entries) (omega (arith, p .sending .total)) (omega arith) (put .0) (put .1),
+      pushed-symbol (pushed e) (p .sending .entries) (omega (arith, p .sending .summed)) (omega arith) (put .0) (put .1),
     )
 
 loop-again-2 : tie.Need-loop-again-2 Inv-loop μ-loop

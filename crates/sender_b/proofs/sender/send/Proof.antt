@@ -117,7 +117,7 @@ flush-requires c κs =
     let l = end .before in
     let inv = l .loop .inv .2 in
     let all = ap (bitsFor (start l .args .mode)) (all-there inv (end .loop-test .left)) in
-    ready inv (sized l .before .before .cells .ensures) _ (omega (arith, inv .passed .total, all))
+    ready inv (sized l .before .before .cells .ensures) _ (omega (arith, inv .passed .summed, all))
 
 returns : tie.Need-returns Inv-loop μ-loop
 returns c =
