@@ -97,9 +97,10 @@ returns-3 c =
     let at-first = first (one (second two)) .decode .result .places in
     let at-second = second two .decode2 .result .places in
     let k = larger .result in
+    let worst : k ≡ max (one (second two) .answer .given .0 .0) (two .answer2 .given .0 .0) = larger .ensures in
     let answered : c .settled .result ≡ settledAs (d .result) m (s .args .differing) k at-first at-second = c .settled .ensures in
     rw answered (coded-settled (s .pre .0) (s .args .area .now) (s .args .differing) (v .0) (w .0) m k at-first at-second (d .last .1 .0) (d .result)
-    (ap₂ _+_ (v .1) (w .1)) (larger .ensures ∙ ap₂ max (v .1) (w .1)) (v .2) (w .2) (s .pre .1)
+    (ap₂ _+_ (v .1) (w .1)) (worst ∙ ap₂ max (v .1) (w .1)) (v .2) (w .2) (s .pre .1)
     (rw (delivered .before .before .before .information .ensures) at (d .ensures)))
 
 pub coded-spec : {M : Type 1} → statement M
