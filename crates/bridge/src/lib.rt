@@ -143,7 +143,7 @@ fn answer_of(t: Told) -> Answer
     }
 }
 
-// All that an answer of receiving tells.
+// All that an answer of receiving tells. Its name has to come before `ortkaveq_`: DECISIONS 92.
 fn all_told(t: Told) -> Received
     requires { ⌜ (t .mended < 2 ^ 16) × (t .protected < 2 ^ 16) × (t .worst < 2 ^ 16) ⌝ }
     ensures { λ r. ⌜ r ≡ receivedOf t ⌝ }

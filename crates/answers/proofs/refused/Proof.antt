@@ -1,7 +1,6 @@
 -- `answers::refused` meets its contract: number and place, and every count 0.
 -- Assumes nothing.
 use mathlib.Core.Path.{refl}
-use borrow.Author.Needs.{needs}
 use Rattle.answers.proofs.refused.Statement.{statement}
 use Rattle.answers.proofs.refused.Tie as tie
 

@@ -1,7 +1,6 @@
 -- `payload::quality::larger` meets its contract: the branch taken answers the larger.
 -- Assumes nothing.
 use native.Mathlib.Omega.{arith}
-use borrow.Author.Needs.{needs}
 use Rattle.payload.proofs.quality.larger.Statement.{statement}
 use Rattle.payload.proofs.quality.larger.Tie as tie
 
