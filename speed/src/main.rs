@@ -2,6 +2,8 @@
 //! of the two is compared; a difference ends the program with status 1.
 
 mod grids;
+#[cfg(feature = "linux")]
+mod linux;
 mod ours;
 mod rows;
 mod theirs;
@@ -18,6 +20,10 @@ const ROUNDS: usize = 60;
 const COLUMNS: &str = "| of | call | ours, ns | second, ns | ours / second |";
 
 fn main() {
+    #[cfg(feature = "linux")]
+    if std::env::args().nth(1).as_deref() == Some("linux") {
+        return linux::print();
+    }
     println!("- {INPUTS} calls a row, in groups of {GROUP}, the fastest of {ROUNDS} rounds for each group");
     println!(
         "- Payload B: {} OFDM symbols a row, in groups of {GROUP}, or of one call where it has more",
@@ -57,7 +63,7 @@ fn compare(row: &Row) {
     }
 }
 
-/// Nanoseconds a call of each: rounds over all inputs, by turns ours and second's; of each group of calls the fastest
+/// Nanoseconds a call of each: rounds over all inputs, by turns ours and the other's; of each group of calls the fastest
 /// round counts, so that a pause of the machine does not.
 fn fastest(row: &Row) -> (f64, f64) {
     let groups = row.inputs.len() / row.group;

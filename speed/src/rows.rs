@@ -26,6 +26,9 @@ pub struct Input {
     pub scheme: Vec<u8>,
     pub i: Vec<i16>,
     pub q: Vec<i16>,
+    /// A word as Linux takes it.
+    #[cfg(feature = "linux")]
+    pub packed: Vec<u8>,
 }
 
 /// What is lent: at the same place in its cache lines in every run.
@@ -84,6 +87,12 @@ pub fn all() -> impl Iterator<Item = Row> {
     (1..=3).flat_map(of_code).chain(of_payload_a()).chain([symbols_needed()])
 }
 
+/// The rows of decoding a word.
+#[cfg(feature = "linux")]
+pub fn decoding() -> impl Iterator<Item = Row> {
+    (1..=3).flat_map(of_code).filter(|row| row.name.starts_with("decode"))
+}
+
 fn row(of: &str, name: &str, (ours, theirs): Calls, mut input: impl FnMut() -> Input) -> Row {
     let inputs = (0..INPUTS).map(|_| input()).collect();
     Row { of: of.to_string(), name: name.to_string(), ours, theirs, inputs, group: GROUP, told: None }
@@ -107,6 +116,7 @@ fn of_code(number: u8) -> Vec<Row> {
         row("encode", ENCODE, &|rng| rng.bits(code.k)),
         row("decode, clean", DECODE, &hit(0)),
         row("decode, 1 hit", DECODE, &hit(1)),
+        row(&format!("decode, t / 2 = {} hits", code.t / 2), DECODE, &hit(code.t / 2)),
         row(&format!("decode, t = {} hits", code.t), DECODE, &hit(code.t)),
         row(&format!("decode, t + 2 = {} hits", code.t + 2), DECODE, &hit(code.t + 2)),
         row("decode, random words", DECODE, &|rng| rng.bits(code.n)),

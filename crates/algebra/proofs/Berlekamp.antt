@@ -1,6 +1,6 @@
 -- The algorithm of Berlekamp and Massey, without inverses: what it has found after r terms of a series, and the steps that keep this true.
 -- Assumes nothing.
-use mathlib.Core.Path.{_≡_, sym, _∙_, subst₂, fun-ext}
+use mathlib.Core.Path.{_≡_, sym, _∙_}
 use mathlib.Core.Logic.{_≢_}
 use Prim.Native.Nat.{ℕ, zero, suc, _+_, _-_, _≤_, _<_}
 use native.Mathlib.Omega.{arith}
@@ -85,10 +85,6 @@ module _ (F : Field2) where
         least = λ f m g. (let q = massey-length F current (λ e. z (sym missed ∙ e)) g in omega arith);
         saved = saved-locator h z;
       }
-
-    -- only the values of the series matter
-    pub found-ext : {locator' T' : ℕ → Element} → ((i : ℕ) → locator i ≡ locator' i) → ((i : ℕ) → T i ≡ T' i) → Found S r locator' T' len b
-    found-ext h k = subst₂ (λ f g. Found S r f g len b) (fun-ext h) (fun-ext k) found
 
   -- before the first term: the locator 1, and T = x
   pub found-start : (S : ℕ → Element) → Found S zero (unit F) (shift F (unit F)) zero 𝟙

@@ -8,5 +8,6 @@ pub mod Series
 pub mod Polynomials
 pub mod Massey
 pub mod Berlekamp
+pub mod Newtons
 pub mod Locator
 pub mod Words

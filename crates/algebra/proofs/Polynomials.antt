@@ -6,7 +6,6 @@ use Prim.Native.Nat.{ℕ, zero, suc, _≤_}
 use native.Mathlib.Omega.{arith}
 use Rattle.algebra.proofs.Fields.{Field2, ring, zero-add, add-zero, mul-zero, eq-of-add, factor-zero}
 use Rattle.algebra.proofs.Places.{Distinct, roots, roots-nil, roots-skip, roots-take, roots-mono}
-use Rattle.algebra.proofs.Powers.{pow, pow-zero, pow-suc}
 use Rattle.algebra.proofs.Series.{mix, shift, shift-zero, shift-suc}
 
 module _ (F : Field2) where
@@ -28,11 +27,6 @@ module _ (F : Field2) where
   ev-suc n p x = refl
 
   ruleset evs = (ring, ev-zero, ev-suc)
-
-  -- the last term apart
-  pub ev-last : (n : ℕ) (p : ℕ → Element) (x : Element) → ev (suc n) p x ≡ ev n p x ⊕ p n ⊗ pow F x n
-  ev-last zero p x = rw (ev-suc zero p x) (simp (ev-zero, pow-zero, ring))
-  ev-last (suc n) p x = rw (ev-suc (suc n) p x, ev-last n (λ i. p (suc i)) x, ev-suc n p x, pow-suc F x n) (simp ring)
 
   -- coefficients that are zero may be left out
   pub ev-trim : (d n : ℕ) (p : ℕ → Element) (x : Element) → d ≤ n → ((i : ℕ) → d ≤ i → p i ≡ 𝟘) → ev n p x ≡ ev d p x

@@ -63,7 +63,7 @@ module _ (F : Field2) where
   conv-scale c f g (suc n) = simp (conv-suc, conv-scale c (λ i. f (suc i)) g n, ring)
 
   -- the last term apart
-  conv-last : (f g : ℕ → Element) (n : ℕ) → conv f g (suc n) ≡ conv f (λ i. g (suc i)) n ⊕ f (suc n) ⊗ g zero
+  pub conv-last : (f g : ℕ → Element) (n : ℕ) → conv f g (suc n) ≡ conv f (λ i. g (suc i)) n ⊕ f (suc n) ⊗ g zero
   conv-last f g zero = rw (conv-suc f g zero) (simp convs)
   conv-last f g (suc n) = rw (conv-suc f g (suc n), conv-suc f _ n, conv-last (λ i. f (suc i)) g n, add-assoc)
 

@@ -5,6 +5,7 @@ pub mod Triples
 pub mod Tops
 pub mod Nibbles
 pub mod Eights
+pub mod Filling
 pub mod Uniqueness
 pub mod Verdicts
 pub mod Sounds

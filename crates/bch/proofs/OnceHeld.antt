@@ -1,16 +1,21 @@
--- What encode and decode stand on leaves one result too: a register is its number, a code that is held is the code of its number,
--- and a verdict is what the checks find.
+-- What encode and decode stand on leaves one result too: a register is its number, a table is its entries, a code that is held is the code of its
+-- number, and a verdict is what the checks find.
 -- Assumes nothing.
-use mathlib.Core.Path.{_≡_, refl, sym, ap, _∙_}
+use mathlib.Core.Path.{_≡_, refl, sym, ap, subst, _∙_}
+use mathlib.Core.Logic.{by-cases}
 use mathlib.Core.Bool.{Bool, true, false, true≢false}
 use mathlib.Core.List.{List}
-use Prim.Native.Nat.{ℕ, _-_, _*_, _^_, _<_}
+use Prim.Native.Nat.{ℕ, _+_, _-_, _*_, _^_, _<_}
 use native.Mathlib.Nat.{add-left-cancel}
+use native.Mathlib.Decide.{decLt}
+use native.Mathlib.Omega.{arith}
+use lib.ListN.{length, getD}
+use lib.Seq.{ext-getD}
 use Rattle.answers.specs.Answers.{accepted, refused, because}
 use Rattle.answers.specs.Checks.{Checked, fails, passes}
 use Rattle.answers.specs.declared.Told.{Told}
 use Rattle.bch.specs.Codes.{Code, Named, known, unknown, code1}
-use Rattle.bch.specs.Registers.{contents, whole}
+use Rattle.bch.specs.Registers.{contents, whole, Remainders}
 use Rattle.bch.specs.Held.{codeOf, Sound, Holds, Judged}
 use Rattle.bch.specs.declared.register.Register.{Register}
 use Rattle.bch.specs.declared.code.Held.{Held}
@@ -37,6 +42,24 @@ pub register-once : (q r : Register) → Wide q → Wide r → contents q ≡ co
 register-once q r wq wr e =
     let same = joined-once (2 ^ 64) (q .high) (q .mid) (q .low) (r .high) (r .mid) (r .low) (wq .mid) (wq .low) (wr .mid) (wr .low) e in
     registers (same .0) (same .1) (same .2)
+
+-- ---- a table
+
+-- what holds of the three machine words of each entry holds of all
+thirds : (P : ℕ → Type 0) → ((e : ℕ) → e < 64 → P e × P (64 + e) × P (128 + e)) → (i : ℕ) → i < 192 → P i
+thirds P h i k =
+    by-cases (decLt i 64) (λ l. h i l .0)
+    (λ m. by-cases (decLt i 128) (λ l. subst P (omega arith) (h (i - 64) (omega arith) .1)) (λ n. subst P (omega arith) (h (i - 128) (omega arith) .2)))
+
+-- the table of a generator is one, where its words are machine words
+pub table-once : (g : ℕ) (u v : List ℕ) → length u ≡ 192 → length v ≡ 192 → ((i : ℕ) → getD u i 0 < 2 ^ 64) → ((i : ℕ) → getD v i 0 < 2 ^ 64)
+    → Remainders g u → Remainders g v → u ≡ v
+table-once g u v lu lv wu wv tu tv = ext-getD 0 u v (lu ∙ sym lv) (λ i h. thirds (λ i. getD u i 0 ≡ getD v i 0) same i (omega arith))
+  where
+    same : (e : ℕ) → e < 64
+        → (getD u e 0 ≡ getD v e 0) × (getD u (64 + e) 0 ≡ getD v (64 + e) 0) × (getD u (128 + e) 0 ≡ getD v (128 + e) 0)
+    same e h =
+        joined-once (2 ^ 64) _ _ _ _ _ _ (wu (64 + e)) (wu (128 + e)) (wv (64 + e)) (wv (128 + e)) (tu .at e h ∙ sym (tv .at e h))
 
 -- ---- a code that is held
 

@@ -2,7 +2,7 @@
 -- Assumes nothing.
 use mathlib.Core.Path.{_≡_, sym, ap, _∙_}
 use mathlib.Core.List.{List}
-use Prim.Native.Nat.{ℕ, _-_, _*_, _^_}
+use Prim.Native.Nat.{ℕ, _-_, _*_, _%_, _^_}
 use lib.Dec.{T, leb, eqb, leb→le, eqb→eq}
 use Rattle.bits.specs.Words.{digits}
 use Rattle.bch.specs.Registers.{tops, whole}
@@ -13,12 +13,13 @@ use Rattle.bits.proofs.Remainders.{remainder-scaled}
 use Rattle.bch.proofs.Tops.{digits-tops}
 
 pub sound : (h : Held) → Rooted (codeOf h) → T (leb (h .n - h .k) 192) → T (leb (h .n) 508) → T (leb (h .t) 16)
-    → T (eqb (whole (h .generator)) (codeOf h .generator * 2 ^ (192 - (h .n - h .k)))) → Sound h
-sound h rooted narrow short few exact = record {
+    → T (eqb (h .k % 8) 0) → T (eqb (whole (h .generator)) (codeOf h .generator * 2 ^ (192 - (h .n - h .k)))) → Sound h
+sound h rooted narrow short few bytes exact = record {
   rooted = rooted;
   narrow = leb→le (h .n - h .k) 192 narrow;
   short = leb→le (h .n) 508 short;
   few = leb→le (h .t) 16 few;
+  bytes = eqb→eq (h .k % 8) 0 bytes;
   exact = eqb→eq (whole (h .generator)) (codeOf h .generator * 2 ^ (192 - (h .n - h .k))) exact;
 }
 

@@ -4,32 +4,19 @@ use mathlib.Core.Path.{_≡_, refl, sym, ap, ap₂, _∙_}
 use mathlib.Core.List.{List, [], _∷_, _++_, append-nil, zipWith}
 use Prim.Native.Nat.{ℕ, zero, suc, _+_, _-_, _*_, _/_, _%_, _^_, _≤_, _<_}
 use native.Mathlib.Omega.{arith}
-use native.Mathlib.Nat.{le-refl, mod-lt, mod-eq-of-lt, div-add-mod', pow-suc, suc-add, mul-assoc, add-zero, zero-mul, zero-mod, zero-div, mod-one, mul-add-mod-self-right}
+use native.Mathlib.Nat.{le-refl, mod-lt, mod-eq-of-lt, pow-suc, suc-add, mul-assoc, add-zero, zero-mul, zero-mod, zero-div, mod-one, mul-add-mod-self-right}
 use native.Mathlib.Numerals.{add-one, one-add}
 use lib.Arith.{digits-lt, digits-mod}
 use lib.Bits.{bitXor, block-half, xor-shr, xor-mod}
 use lib.Dec.{lit<}
 use lib.ListN.{length}
-use lib.Pow.{pow-pos, pow-add, shl-shr, shr-shr, shr-lt, high, field, mod-pow-add, mod-mod-pow}
+use lib.Pow.{pow-pos, pow-add, shl-shr, shr-shr, shr-lt, high, field, mod-pow-add}
 use Rattle.ground.proofs.Xors.{xor-double}
 use Rattle.bits.specs.Words.{Bits, digits}
 use Rattle.bch.specs.Registers.{tops, atTop}
 use Rattle.bits.proofs.Remainders.{halved}
-
-pub mod-times : (n q p : ℕ) → n % p * q % p ≡ n * q % p
-mod-times n q p =
-    let e : n / p * q * p + n % p * q ≡ n * q = omega (arith, ap (λ (k : ℕ). k * q) (div-add-mod' n p)) in
-    sym (mul-add-mod-self-right (n / p * q) p (n % p * q)) ∙ ap (λ (k : ℕ). k % p) e
-
-digit-mod : (m e x : ℕ) → m < e → x % 2 ^ e / 2 ^ m % 2 ≡ x / 2 ^ m % 2
-digit-mod m e x h =
-    let s : e - suc m + 1 + m ≡ e = omega arith in
-    ap (λ (n : ℕ). x % 2 ^ n / 2 ^ m % 2) (sym s) ∙ ap (λ (n : ℕ). n % 2) (field x (e - suc m + 1) m) ∙ mod-mod-pow (x / 2 ^ m) (e - suc m) 1
-
-digits-mod-pow : (m e x : ℕ) → m ≤ e → digits m (x % 2 ^ e) ≡ digits m x
-unfolding digits
-digits-mod-pow zero e x h = refl
-digits-mod-pow (suc m) e x h = ap₂ _∷_ (digit-mod m e x h) (digits-mod-pow m e x (omega arith))
+use Rattle.bits.proofs.Shifts.{digits-mod-pow}
+use Rattle.bits.proofs.Falling.{mod-times}
 
 -- ---- the top of a register
 
@@ -95,7 +82,7 @@ shifted-digits (suc r) k x bs h =
     ∙ omega (arith, ap (λ (n : ℕ). n * 2 ^ k) (rw one-add at (mod-pow-add x 1 r)), rw add-one at (shr-shr (atTop bs) r 1))
 
 -- digits before bits
-pub at-top-before : (r x : ℕ) (bs : List ℕ) → r ≤ 192 → x < 2 ^ r → atTop (digits r x ++ bs) ≡ x * 2 ^ (192 - r) + atTop bs / 2 ^ r
+at-top-before : (r x : ℕ) (bs : List ℕ) → r ≤ 192 → x < 2 ^ r → atTop (digits r x ++ bs) ≡ x * 2 ^ (192 - r) + atTop bs / 2 ^ r
 at-top-before r x bs h l = shifted-digits r (192 - r) x bs (omega arith) ∙ ap (λ (n : ℕ). n * 2 ^ (192 - r) + atTop bs / 2 ^ r) (mod-eq-of-lt l)
 
 pub at-top-digits : (r x : ℕ) → r ≤ 192 → x < 2 ^ r → atTop (digits r x) ≡ x * 2 ^ (192 - r)

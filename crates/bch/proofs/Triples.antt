@@ -3,7 +3,7 @@
 use mathlib.Core.Path.{_≡_, sym, ap, _∙_}
 use Prim.Native.Nat.{ℕ, _+_, _*_, _/_, _%_, _^_, _<_}
 use native.Mathlib.Omega.{arith}
-use native.Mathlib.Nat.{mod-lt, div-add-mod', div-lt-iff-lt-mul, div-div-eq-div-mul, mul-add-div-right, mul-comm, le-mul-of-pos-right}
+use native.Mathlib.Nat.{mod-lt, div-add-mod', div-lt-iff-lt-mul, div-div-eq-div-mul, le-mul-of-pos-right}
 use lib.Arith.{digits-lt, digits-div, digits-mod}
 use lib.Bits.{bitXor, xor-block}
 
@@ -52,17 +52,6 @@ module _ (H D : ℕ) (some : 0 < H) (one : 0 < D) where
       sym (ap (λ (n : ℕ). n % (W * W * W))
       (carried W D h m l (h / H) (m / H) (l / H) (h % H * D) (m % H * D) (l % H * D) (times h) (times m) (times l))
       ∙ digits-mod (h / H) (joined-lt (raised-lt h m km) (raised-lt m l kl) (omega arith)))
-
-  pub lowered-lt : (h m : ℕ) → m < H * D → h % D * H + m / D < H * D
-  lowered-lt h m km = rw (mul-comm H D) (digits-lt (mod-lt h one) (div-lt-iff-lt-mul one .1 km))
-
-  pub joined-down : (b h m l : ℕ)
-      → joined (H * D) (b * H + h / D) (h % D * H + m / D) (m % D * H + l / D) ≡ b * (H * (H * D) * (H * D)) + joined (H * D) h m l / D
-  joined-down b h m l =
-      let n = h * H * (H * D) + m * H in
-      let s : joined (H * D) h m l ≡ n * D + l = omega arith in
-      let q : joined (H * D) h m l / D ≡ n + l / D = ap (λ (x : ℕ). x / D) s ∙ mul-add-div-right one n l in
-      omega (arith, q, ap (λ (x : ℕ). x * H * H * D) (div-add-mod' h D), ap (λ (x : ℕ). x * H) (div-add-mod' m D))
 
 pub joined-xor : (w h m l i n k : ℕ) → m < 2 ^ w → l < 2 ^ w → n < 2 ^ w → k < 2 ^ w
     → joined (2 ^ w) (bitXor h i) (bitXor m n) (bitXor l k) ≡ bitXor (joined (2 ^ w) h m l) (joined (2 ^ w) i n k)

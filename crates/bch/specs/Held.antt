@@ -4,7 +4,7 @@
 use mathlib.Core.Path.{_≡_}
 use mathlib.Core.Bool.{Bool, cond}
 use mathlib.Core.List.{List}
-use Prim.Native.Nat.{ℕ, suc, _-_, _*_, _/_, _^_, _≤_, _<_}
+use Prim.Native.Nat.{ℕ, suc, _-_, _*_, _/_, _%_, _^_, _≤_, _<_}
 use lib.ListN.{length}
 use Rattle.algebra.proofs.Powers.{pow}
 use Rattle.field.proofs.Elements.{GF512}
@@ -31,12 +31,13 @@ pub record Rooted (c : Code) : Type 0 where
 abbrev pub codeOf : Held → Code
 codeOf h = record { n = h .n; k = h .k; t = h .t; generator = whole (h .generator) / 2 ^ (192 - (h .n - h .k)) }
 
--- what is known of a code that is held; it is one of three, so all of this is computed
+-- what is known of a code that is held, its information whole bytes; it is one of three, so all of this is computed
 pub record Sound (h : Held) : Type 0 where
   pub rooted : Rooted (codeOf h)
   pub narrow : h .n - h .k ≤ 192
   pub short : h .n ≤ 508
   pub few : h .t ≤ 16
+  pub bytes : h .k % 8 ≡ 0
   pub exact : whole (h .generator) ≡ codeOf h .generator * 2 ^ (192 - (h .n - h .k))
 
 -- the code of a number is held, or there is none

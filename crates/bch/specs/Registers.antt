@@ -32,6 +32,20 @@ whole g = 2 ^ 192 + contents g
 unfoldable pub chosen : ℕ → ℕ → ℕ → ℕ → ℕ → ℕ
 chosen i a b c d = bitXor (i / 8 % 2 * d) (bitXor (i / 4 % 2 * c) (bitXor (i / 2 % 2 * b) (i % 2 * a)))
 
--- half of a table: at each i below 16 the remainder by g of the four digits of i with k zeros behind
+-- a part of a table: at each i below 16 the remainder by g of the four digits of i with k zeros behind
 abbrev pub Sixteens : ℕ → ℕ → List Register → Type 0
 Sixteens g k table = (i : ℕ) (z : Register) → i < 16 → contents (getD table i z) ≡ remainder 192 g (digits 4 i ++ replicate k 0)
+
+-- ---- a table to lend: 64 entries of 192 digits, the high machine words of all of them first, then the middle ones, then the low ones
+
+-- the entry i
+abbrev pub entryAt : List ℕ → ℕ → ℕ
+entryAt table i = (getD table i 0 * 2 ^ 64 + getD table (64 + i) 0) * 2 ^ 64 + getD table (128 + i) 0
+
+-- the first n entries for the generator g, at the top of 192 digits: at 16 j + i the remainder of the four digits of i with 4 j zeros behind
+abbrev pub EntriesTo : ℕ → ℕ → List ℕ → Type 0
+EntriesTo n g table = (e : ℕ) → e < n → entryAt table e ≡ remainder 192 g (digits 4 (e % 16) ++ replicate (4 * (e / 16)) 0)
+
+-- the rule of a table for the generator g
+pub record Remainders (g : ℕ) (table : List ℕ) : Type 0 where
+  pub at : EntriesTo 64 g table

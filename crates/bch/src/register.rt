@@ -1,15 +1,15 @@
 // A register of 192 binary digits in three machine words, the highest first. A remainder of r digits stands at its top, with zeros below,
 // so that one step serves all three codes. A word is taken in eight bits at a time, by a table of remainders in two halves, one for
-// the upper four of eight digits and one for the lower four.
+// the upper four of eight digits and one for the lower four; `table` makes one of four parts to lend, for sixteen bits at a time.
 ghost use mathlib.Core.Path.{_≡_};
 ghost use mathlib.Core.List.{_∷_, _++_};
-ghost use Prim.Native.Nat.{ℕ, _+_, _*_, _/_, _%_, _^_, _<_};
+ghost use Prim.Native.Nat.{ℕ, _+_, _*_, _/_, _%_, _^_, _≤_, _<_};
 ghost use lib.Bits.{bitXor};
 ghost use lib.Dec.{eqb};
 ghost use lib.ListN.{length, getD, drop, replicate};
 ghost use Rattle.bits.specs.Words.{lowest, digits};
 ghost use Rattle.bits.specs.Remainders.{step, remainder, remainderFrom};
-ghost use Rattle.bch.specs.Registers.{contents, whole, atTop, tops, chosen, Sixteens};
+ghost use Rattle.bch.specs.Registers.{contents, whole, tops, chosen, Sixteens, EntriesTo, Remainders};
 
 pub struct Register {
     pub high: u64,
@@ -39,18 +39,6 @@ fn up(r: Register) -> Register
         high: r.high % 0x8000_0000_0000_0000 * 2 + r.mid / 0x8000_0000_0000_0000,
         mid: r.mid % 0x8000_0000_0000_0000 * 2 + r.low / 0x8000_0000_0000_0000,
         low: r.low % 0x8000_0000_0000_0000 * 2,
-    }
-}
-
-// One place down, with b as the highest digit; the lowest falls out.
-fn down(r: Register, b: u64) -> Register
-    requires { ⌜ b < 2 ⌝ }
-    ensures { λ q. ⌜ contents q ≡ b * 2 ^ 191 + contents r / 2 ⌝ }
-{
-    Register {
-        high: b * 0x8000_0000_0000_0000 + r.high / 2,
-        mid: r.high % 2 * 0x8000_0000_0000_0000 + r.mid / 2,
-        low: r.mid % 2 * 0x8000_0000_0000_0000 + r.low / 2,
     }
 }
 
@@ -107,18 +95,6 @@ pub fn up8(r: Register) -> Register
     }
 }
 
-// Eight places down, with the eight digits of b as the highest; the lowest eight fall out.
-fn down8(r: Register, b: u64) -> Register
-    requires { ⌜ b < 256 ⌝ }
-    ensures { λ q. ⌜ contents q ≡ b * 2 ^ 184 + contents r / 256 ⌝ }
-{
-    Register {
-        high: b * 0x0100_0000_0000_0000 + r.high / 256,
-        mid: r.high % 256 * 0x0100_0000_0000_0000 + r.mid / 256,
-        low: r.mid % 256 * 0x0100_0000_0000_0000 + r.low / 256,
-    }
-}
-
 // The lowest digit of an element, as a machine word.
 fn wide(b: u8) -> u64
     ensures { λ w. ⌜ (w ≡ b % 2) × (w < 2) ⌝ }
@@ -168,7 +144,7 @@ fn chosen(a: Register, b: Register, c: Register, d: Register) -> [Register; 16]
     ]
 }
 
-// Half of the table: the remainders of the sixteen words of four bits with k zeros behind, where x is that of a 1 with k zeros behind.
+// A part of a table: the remainders of the sixteen words of four bits with k zeros behind, where x is that of a 1 with k zeros behind.
 fn sixteen(g: Register, x: Register) -> [Register; 16]
     ensures { λ t. ⌜ ((k : ℕ) → contents x ≡ remainder 192 (whole g) (1 ∷ replicate k 0) → Sixteens (whole g) k t) ⌝ }
 {
@@ -176,6 +152,39 @@ fn sixteen(g: Register, x: Register) -> [Register; 16]
     let c = step(b, g, 0);
     let d = step(c, g, 0);
     chosen(x, b, c, d)
+}
+
+// A table to lend: the remainders of the sixteen words of four bits with 0, 4, 8 and 12 zeros behind.
+pub fn table(g: Register) -> [u64; 192]
+    ensures { λ t. ⌜ Remainders (whole g) t ⌝ }
+{
+    // At 8 in a part stands the remainder of a 1 with three zeros more behind; one zero more, and the next part begins.
+    let a = sixteen(g, g);
+    let b = sixteen(g, step(a[8], g, 0));
+    let c = sixteen(g, step(b[8], g, 0));
+    let d = sixteen(g, step(c[8], g, 0));
+    let mut out = [0u64; 192];
+    put_part(a, 0, &mut out);
+    put_part(b, 16, &mut out);
+    put_part(c, 32, &mut out);
+    put_part(d, 48, &mut out);
+    out
+}
+
+// Puts the sixteen entries of a part from the entry `from` on.
+fn put_part(part: [Register; 16], from: usize, out: &mut [u64; 192])
+    requires { ⌜ (length (now out) ≡ 192) × (from ≤ 48) ⌝ }
+    ensures { λ _. ⌜ (length (now (out .exit)) ≡ 192) × ((g j : ℕ) → from ≡ 16 * j → Sixteens g (4 * j) part → EntriesTo from g (now (out .entry)) → EntriesTo (from + 16) g (now (out .exit))) ⌝ }
+{
+    let mut i: usize = 0;
+    while i < 16 {
+        let r = part[i];
+        let e = from + i;
+        out[e] = r.high;
+        out[64 + e] = r.mid;
+        out[128 + e] = r.low;
+        i += 1;
+    }
 }
 
 // The eight digits that fall out of the register, with those of b added: the upper four are a place in one half of the table, the lower four in the
@@ -211,23 +220,6 @@ pub fn remainder(g: Register, word: &[u8]) -> Register
     while i < word.len() {
         r = step(r, g, word[i] % 2);
         i += 1;
-    }
-    r
-}
-
-// The bits of word at the top of a register; an element counts as its lowest binary digit.
-pub fn at_top(word: &[u8]) -> Register
-    ensures { λ q. ⌜ contents q ≡ atTop (lowest (now (word .entry))) ⌝ }
-{
-    let mut r = ZERO;
-    let mut i: usize = word.len();
-    while 8 <= i {
-        i -= 8;
-        r = down8(r, eight(word, i));
-    }
-    while 0 < i {
-        i -= 1;
-        r = down(r, wide(word[i]));
     }
     r
 }

@@ -23,7 +23,7 @@ module _ (a k : ℕ) (xs : List ℕ) (fits : a + k ≤ length xs) where
       ∙ take-at (take a xs ++ ys) (postOf a k xs) (a + k) (length-append (take a xs) ys ∙ ap₂ _+_ (length-take-le a xs (omega arith)) e)
 
 -- what `bytes::copy` leaves in a list as long
-pub copied-all : (bits part : List ℕ) → length part ≡ length bits → take (length bits) bits ++ drop (length bits) part ≡ bits
+copied-all : (bits part : List ℕ) → length part ≡ length bits → take (length bits) bits ++ drop (length bits) part ≡ bits
 copied-all bits part e = ap₂ _++_ (take-length bits) (drop-of-length-le part {i = length bits} (rw e (le-refl (length bits)))) ∙ append-nil bits
 
 -- and at the front of a longer list

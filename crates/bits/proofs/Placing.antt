@@ -192,7 +192,7 @@ set-from i (v ∷ vs) (w ∷ ws) (suc p) x e low same other =
     ∙ sym (append-assoc (mark i v w) (placesFrom (suc i) vs ws) ((i + suc p) ∷ []))
     ∙ ap (λ (l : List ℕ). l ++ ((i + suc p) ∷ [])) (sym (places-cons i v w vs ws))
 
-pub places-set : (v w : List ℕ) (p x : ℕ) → length v ≡ length w → p < length w → Same p v w → x ≢ getD w p 0
+places-set : (v w : List ℕ) (p x : ℕ) → length v ≡ length w → p < length w → Same p v w → x ≢ getD w p 0
     → places (set v p x) w ≡ places v w ++ (p ∷ [])
 places-set v w p x e low same other = set-from 0 v w p x e low same other ∙ ap (λ (n : ℕ). places v w ++ (n ∷ [])) (omega arith)
 

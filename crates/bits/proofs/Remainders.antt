@@ -85,15 +85,16 @@ unfolding remainder remainderFrom
 leading-zeros r g zero w = refl
 leading-zeros r g (suc m) w = ap (λ (x : ℕ). remainderFrom r g x (replicate m 0 ++ w)) (step-0 r g) ∙ leading-zeros r g m w
 
-pub remainder-lt : (r g : ℕ) → g / 2 ^ r ≡ 1 → (m : List ℕ) → Bits m → remainder r g m < 2 ^ r
-unfolding remainder remainderFrom
-remainder-lt r g degree m bits = from 0 (pow-pos r) m bits
-  where
-    from : (x : ℕ) → x < 2 ^ r → (m : List ℕ) → Bits m → remainderFrom r g x m < 2 ^ r
-    from x hx [] bits = hx
-    from x hx (b ∷ m) bits = from (step r g x b) (step-lt r g x b degree hx (bits .0)) m (bits .1)
+pub from-lt : (r g : ℕ) → g / 2 ^ r ≡ 1 → (x : ℕ) → x < 2 ^ r → (m : List ℕ) → Bits m → remainderFrom r g x m < 2 ^ r
+unfolding remainderFrom
+from-lt r g degree x hx [] bits = hx
+from-lt r g degree x hx (b ∷ m) bits = from-lt r g degree (step r g x b) (step-lt r g x b degree hx (bits .0)) m (bits .1)
 
-pub xor-scaled : (k a b : ℕ) → bitXor (a * 2 ^ k) (b * 2 ^ k) ≡ bitXor a b * 2 ^ k
+pub remainder-lt : (r g : ℕ) → g / 2 ^ r ≡ 1 → (m : List ℕ) → Bits m → remainder r g m < 2 ^ r
+unfolding remainder
+remainder-lt r g degree m bits = from-lt r g degree 0 (pow-pos r) m bits
+
+xor-scaled : (k a b : ℕ) → bitXor (a * 2 ^ k) (b * 2 ^ k) ≡ bitXor a b * 2 ^ k
 xor-scaled k a b =
     sym (ap₂ bitXor (add-zero (a * 2 ^ k)) (add-zero (b * 2 ^ k))) ∙ xor-block k a b 0 0 (pow-pos k) (pow-pos k) ∙ add-zero (bitXor a b * 2 ^ k)
 

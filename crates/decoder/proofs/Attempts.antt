@@ -5,7 +5,7 @@ use mathlib.Core.Logic.{inl, inr}
 use mathlib.Core.List.{List, [], _∷_, _++_}
 use Prim.Native.Nat.{ℕ, suc, _-_, _*_, _≤_, _<_}
 use native.Mathlib.Omega.{arith}
-use lib.ListN.{length, take, drop, getD, set, length-set}
+use lib.ListN.{length, drop, getD, set, length-set}
 use Rattle.algebra.proofs.Berlekamp.{Found}
 use Rattle.field.proofs.Elements.{GF512}
 use Rattle.field.proofs.Values.{series}
@@ -24,7 +24,7 @@ use Rattle.bch.specs.Promise.{Decodes, Mended}
 use Rattle.answers.specs.declared.Decoded.the-variants.{Accepted}
 use Rattle.answers.specs.declared.DecodedWord.{DecodedWord}
 use Rattle.bch.specs.declared.code.Held.{Held}
-use Rattle.bits.proofs.Copies.{bits-set, copied-all}
+use Rattle.bits.proofs.Copies.{bits-set}
 use Rattle.bits.proofs.Distances.{differ-self}
 use Rattle.bits.proofs.Placing.{as-many, places-self, places-flipped}
 use Rattle.decoder.proofs.Leftovers.{value-left}
@@ -91,15 +91,13 @@ pub record Neighbour (w copy : List ℕ) (p : ℕ) : Type 0 where
   pub long : length copy ≡ length w
   pub there : places copy w ≡ p ∷ []
 
--- the word was copied into a list as long, and one place flipped there
-pub neighbour : (w old : List ℕ) (n p : ℕ) → Bits w → length w ≡ n → length old ≡ n → p < n
-    → {copy : List ℕ} → copy ≡ take (length w) w ++ drop (length w) old → Neighbour w (set copy p (1 - getD w p 0)) p
-neighbour w old n p bits long room low e =
-    rw (e ∙ copied-all w old (room ∙ sym long)) (record {
-      bits = bits-set w p (1 - getD w p 0) bits (omega arith);
-      long = length-set w p (1 - getD w p 0);
-      there = places-flipped w bits p (omega arith);
-    })
+-- one place flipped
+pub neighbour : (w : List ℕ) (p : ℕ) → Bits w → p < length w → Neighbour w (set w p (1 - getD w p 0)) p
+neighbour w p bits low = record {
+  bits = bits-set w p (1 - getD w p 0) bits (omega arith);
+  long = length-set w p (1 - getD w p 0);
+  there = places-flipped w bits p low;
+}
 
 -- a neighbour that is a codeword is the answer
 pub settled-neighbour : {w copy : List ℕ} {p : ℕ} → Neighbour w copy p → (c : Code) (out : List ℕ) (answer : DecodedWord) (after : List ℕ) → 1 ≤ c .t

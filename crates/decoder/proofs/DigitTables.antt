@@ -23,7 +23,7 @@ use Rattle.bits.specs.Words.{digits}
 use Rattle.bch.proofs.Generators.{hornerFrom, of-horner}
 use Rattle.decoder.specs.Locators.{Lent}
 use Rattle.decoder.specs.Syndromes.{Half, DigitValues}
-use Rattle.decoder.proofs.Summands.{log-of, log-zero, log-low}
+use Rattle.decoder.proofs.Lents.{log-of, log-zero, log-low}
 
 -- ---- x a^e
 

@@ -21,7 +21,6 @@ use Rattle.bch.specs.Registers.{tops}
 use Rattle.bch.proofs.Nibbles.{eight-digits}
 use Rattle.bch.proofs.Tops.{tops-more, tops-shifted}
 use Rattle.decoder.specs.Syndromes.{oddPower, Taken, Odds, DigitValues}
-use Rattle.decoder.proofs.Summands.{nothing-at}
 open Field2 GF512 using (Element, zero as 𝟘, add as _⊕_, mul as _⊗_)
 
 infixl 60 _⊕_
@@ -86,6 +85,12 @@ pub exponent : (m l : ℕ) → m ≤ 8 → l < 16 → m * (2 * l + 1) < 511
 exponent m l few low = let e : m * (2 * l + 1) ≤ 8 * (2 * l + 1) = mul-le-mul-right (2 * l + 1) few in omega arith
 
 -- ---- sums that take in coefficients one after the other
+
+nothing-at : (n m i : ℕ) → _≡_ {A = ℕ} (getD (take n (replicate m 0)) i 0) 0
+nothing-at zero m i = refl
+nothing-at (suc n) zero i = refl
+nothing-at (suc n) (suc m) zero = refl
+nothing-at (suc n) (suc m) (suc i) = nothing-at n m i
 
 module _ (bits old : List ℕ) where
   -- the first n sums have taken them in, and the others are as they were

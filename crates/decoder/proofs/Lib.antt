@@ -1,7 +1,5 @@
 pub mod Lents
-pub mod Summands
 pub mod Leftovers
-pub mod Flips
 pub mod Completeness
 pub mod Shifts
 pub mod Mixes
@@ -11,3 +9,13 @@ pub mod Attempts
 pub mod DigitTables
 pub mod Horners
 pub mod Squares
+pub mod PackedWords
+pub mod OneBit
+pub mod Marking
+pub mod LowestDigits
+pub mod Ones
+pub mod Listings
+pub mod Turnings
+pub mod Flippings
+pub mod Entries
+pub mod Once

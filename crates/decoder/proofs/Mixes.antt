@@ -6,15 +6,15 @@ use Prim.Native.Nat.{ℕ, _+_, _≤_, _<_}
 use native.Mathlib.Decide.{decLt}
 use native.Mathlib.Omega.{arith}
 use borrow.Author.Count.{below-more}
-use lib.Bits.{bitXor, xor-lt}
+use lib.Bits.{bitXor}
 use lib.ListN.{length, getD, set, replicate}
 use lib.Seq.{getD-set-same, getD-set-other}
 use Rattle.algebra.proofs.Series.{mix, mix-at, mix-vanish}
 use Rattle.field.specs.Tables.{productFrom}
 use Rattle.field.proofs.Elements.{GF512, element-of, of-0, of-xor}
 use Rattle.field.proofs.Values.{series}
-use Rattle.decoder.specs.Locators.{Lent, Small, Ends}
-use Rattle.decoder.proofs.Lents.{lent-product, lent-small}
+use Rattle.decoder.specs.Locators.{Lent, Ends}
+use Rattle.decoder.proofs.Lents.{lent-product}
 use Rattle.decoder.proofs.Shifts.{zeros-at}
 
 module _ (logs powers : List ℕ) (b d : ℕ) (f g : List ℕ) where
@@ -39,13 +39,6 @@ module _ {logs powers : List ℕ} {b d : ℕ} {f g out : List ℕ} {n : ℕ} (m 
   }
 
   module _ (lent : Lent logs powers) where
-    small-at : (k : ℕ) → Dec (k < n) → getD out k 0 < 512
-    small-at k (yes h) = rw (m .entry k h) (xor-lt 9 _ _ (lent-small lent b _) (lent-small lent d _))
-    small-at k (no h) = rw (m .rest k (omega arith)) (omega arith)
-
-    pub small-mixed : Small out
-    small-mixed k = small-at k (decLt k n)
-
     module _ {last : ℕ} (past : last < n) (ends-f : Ends f last) (ends-g : Ends g last) where
       series-at : (k : ℕ) → Dec (k < n) → series out k ≡ mix GF512 (element-of b) (element-of d) (series f) (series g) k
       unfolding series

@@ -1,4 +1,4 @@
--- Lists of coefficients moved up by one place: entry by entry, and as series. The lists of 1 and x.
+-- Lists of coefficients moved up by two places: entry by entry, and as series. The lists of 1 and x.
 -- Assumes nothing.
 use mathlib.Core.Path.{_≡_, refl, sym, ap, _∙_, fun-ext}
 use mathlib.Core.List.{List, _∷_}
@@ -11,15 +11,15 @@ use lib.Seq.{getD-take, take-suc, take-suc-set}
 use Rattle.algebra.proofs.Series.{shift, shift-zero, shift-suc, unit, unit-zero, unit-past}
 use Rattle.field.proofs.Elements.{GF512, element-of, of-0, of-1}
 use Rattle.field.proofs.Values.{series}
-use Rattle.decoder.specs.Locators.{Small}
 
--- one more entry of p with 0 in front
-pub moved-more : (p out : List ℕ) (i : ℕ) → 0 < i → i < length out → i < suc (length p) → take i out ≡ take i (0 ∷ p)
-    → take (i + 1) (set out i (getD p (i - 1) 0)) ≡ take (i + 1) (0 ∷ p)
+-- one more entry of p with two 0s in front
+pub moved-more : (p out : List ℕ) (i : ℕ) → 1 < i → i < length out → i < suc (suc (length p)) → take i out ≡ take i (0 ∷ 0 ∷ p)
+    → take (i + 1) (set out i (getD p (i - 2) 0)) ≡ take (i + 1) (0 ∷ 0 ∷ p)
 moved-more p out zero z h k e = absurd (omega arith)
-moved-more p out (suc i) z h k e =
-    let v : suc i - 1 ≡ i = omega arith in
-    rw (add-one, v, take-suc-set out (suc i), e, ← take-suc (0 ∷ p) (suc i) 0)
+moved-more p out (suc zero) z h k e = absurd (omega arith)
+moved-more p out (suc (suc i)) z h k e =
+    let v : suc (suc i) - 2 ≡ i = omega arith in
+    rw (add-one, v, take-suc-set out (suc (suc i)), e, ← take-suc (0 ∷ 0 ∷ p) (suc (suc i)) 0)
 
 -- ---- as series
 
@@ -40,9 +40,9 @@ module _ (n : ℕ) (l : List ℕ) (lost : (i : ℕ) → n ≤ i → series l i �
   series-take i (yes h) = ap element-of (sym (getD-take n l i 0 h))
   series-take i (no h) = lost i (omega arith) ∙ sym (series-past (take n l) i (simp length-take (omega arith)))
 
-  -- one place up is x times the series, where all that is lost is zero
-  pub series-moved : (i : ℕ) → shift GF512 (series l) i ≡ series (0 ∷ take n l) i
-  series-moved i = rw (fun-ext (λ j. series-take j (decLt j n))) (series-0 (take n l) i)
+  -- two places up is x^2 times the series, where all that is lost is zero
+  pub series-moved : (i : ℕ) → shift GF512 (shift GF512 (series l)) i ≡ series (0 ∷ 0 ∷ take n l) i
+  series-moved i = rw (fun-ext (λ j. series-take j (decLt j n)), fun-ext (series-0 (take n l))) (series-0 (0 ∷ take n l) i)
 
 -- ---- 1 and x
 
@@ -58,7 +58,3 @@ series-1 n (suc i) = unit-past GF512 (suc i) (omega arith) ∙ sym (ap element-o
 
 pub series-x : (n i : ℕ) → shift GF512 (unit GF512) i ≡ series (0 ∷ 1 ∷ replicate n 0) i
 series-x n i = rw (fun-ext (series-1 n)) (series-0 (1 ∷ replicate n 0) i)
-
-pub small-1 : (n : ℕ) → Small (1 ∷ replicate n 0)
-small-1 n zero = omega arith
-small-1 n (suc i) = rw (zeros-at n i) (omega arith)

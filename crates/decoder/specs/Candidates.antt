@@ -6,24 +6,45 @@ use mathlib.Core.Logic.{_⊎_}
 use mathlib.Core.List.{List, _++_}
 use Prim.Native.Nat.{ℕ, _≤_}
 use lib.Bits.{bitXor}
-use lib.ListN.{length, take, drop}
+use lib.ListN.{length, take, drop, replicate}
 use Rattle.bits.specs.Words.{Bits, differ}
 use Rattle.bits.specs.Places.{places}
 use Rattle.bits.specs.Remainders.{remainder}
 use Rattle.bch.specs.Codes.{Code, Codeword, Within}
-use Rattle.bch.specs.Promise.{Mended}
-use Rattle.bch.specs.Registers.{whole, atTop}
+use Rattle.bch.specs.Promise.{Mended, Decodes}
+use Rattle.bch.specs.Held.{Sound, codeOf}
+use Rattle.packed.specs.Packed.{bits512, padded}
+use Rattle.bch.specs.Registers.{whole, atTop, Remainders}
 use Rattle.answers.specs.Answers.{listed, noWord}
+use Rattle.answers.specs.Checks.{passes}
 use Rattle.answers.specs.declared.Refusal.the-variants.{Uncorrectable}
 use Rattle.answers.specs.declared.Decoded.{Decoded}
 use Rattle.answers.specs.declared.Decoded.the-variants.{Accepted, Refused}
 use Rattle.answers.specs.declared.DecodedWord.{DecodedWord}
 use Rattle.bch.specs.declared.code.Held.{Held}
+use Rattle.decoder.specs.declared.DecodedPacked.{DecodedPacked}
 use Rattle.decoder.specs.declared.search.Flips.{Flips}
 
 -- the remainder of a whole word, at the top of 192 digits
 unfoldable pub leftover : Held → List ℕ → ℕ
 leftover h w = bitXor (remainder 192 (whole (h .generator)) (take (h .k) w)) (atTop (drop (h .k) w))
+
+-- a sound code, with its table
+pub record Ready (h : Held) (table : List ℕ) : Type 0 where
+  pub sound : Sound h
+  pub rule : Remainders (whole (h .generator)) table
+
+-- the word that is packed: the first n bits
+unfoldable pub wordOf : Held → List ℕ → List ℕ
+wordOf h words = take (h .n) (bits512 words)
+
+-- there is no bit but 0 behind them
+abbrev pub Clear : Held → List ℕ → Type 0
+Clear h words = bits512 words ≡ padded (wordOf h words)
+
+-- the packed word is decoded
+abbrev pub DecodesPacked : Held → List ℕ → DecodedPacked → Type 0
+DecodesPacked h words r = Decodes (passes (codeOf h)) (wordOf h words) (replicate 512 0) (r .told) (bits512 (r .bits))
 
 -- `copy` differs from the word in the places flipped, at most t, and is the only word that could be the answer
 pub record Candidate (c : Code) (word copy : List ℕ) (flips : Flips) : Type 0 where

@@ -1,4 +1,5 @@
+pub mod Promise
 pub mod Locators
-pub mod Picks
+pub mod Marks
 pub mod Candidates
 pub mod Syndromes

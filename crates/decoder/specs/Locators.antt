@@ -4,11 +4,11 @@
 use mathlib.Core.Path.{_≡_}
 use mathlib.Core.Logic.{_≢_}
 use mathlib.Core.List.{List}
-use Prim.Native.Nat.{ℕ, suc, _+_, _-_, _*_, _<_, _≤_}
+use Prim.Native.Nat.{ℕ, suc, _+_, _-_, _<_, _≤_}
 use lib.ListN.{length, getD}
 use Rattle.algebra.proofs.Powers.{pow}
 use Rattle.algebra.proofs.Polynomials.{ev}
-use Rattle.algebra.proofs.Berlekamp.{Found}
+use Rattle.algebra.proofs.Newtons.{Paired}
 use Rattle.field.specs.Tables.{logTable, powerTable}
 use Rattle.field.proofs.Elements.{GF512, element-of}
 use Rattle.field.proofs.Values.{a, series}
@@ -23,36 +23,21 @@ pub record Lent (logs powers : List ℕ) : Type 0 where
   pub logs-are : logs ≡ logTable
   pub powers-are : powers ≡ powerTable
 
--- every entry is an element
-abbrev pub Small : List ℕ → Type 0
-Small l = (i : ℕ) → getD l i 0 < 512
-
 -- the entries behind `last` are 0
 abbrev pub Ends : List ℕ → ℕ → Type 0
 Ends l last = (i : ℕ) → last < i → series l i ≡ GF512 .zero
-
--- f p is added to the entry p, for each p
-pub record Plus (f : ℕ → GF512 .Element) (old new : List ℕ) : Type 0 where
-  pub long : length new ≡ length old
-  pub each : (p : ℕ) → p < length old → series new p ≡ GF512 .add (series old p) (f p)
-  pub small : Small old → Small new
-
--- a^(e + d i) is added to the entry i, for each i
-abbrev pub Added : ℕ → ℕ → List ℕ → List ℕ → Type 0
-Added e d = Plus (λ i. pow GF512 a (e + d * i))
-
--- the term c x^i at x = a^(from + p)
-abbrev pub termAt : ℕ → ℕ → ℕ → ℕ → GF512 .Element
-termAt c i from p = GF512 .mul (element-of c) (pow GF512 (pow GF512 a (from + p)) i)
 
 -- the value of the first n terms of the locator at a^(from + p)
 abbrev pub valueAt : List ℕ → ℕ → ℕ → ℕ → GF512 .Element
 valueAt locator n from p = ev GF512 n (series locator) (pow GF512 a (from + p))
 
--- the state after r syndromes
-pub record After (s : List ℕ) (r : ℕ) (q : State) : Type 0 where
-  pub found : Found GF512 (series s) r (series (q .locator)) (series (q .other)) (q .len) (element-of (q .b))
-  pub small : Small (q .locator)
+-- in the first n pairs of syndromes the second one, at 2 i + 1, is the square of that at i: so it is for a binary word
+abbrev pub Squared : List ℕ → ℕ → Type 0
+Squared s n = (i : ℕ) → i < n → series s (suc (i + i)) ≡ GF512 .mul (series s i) (series s i)
+
+-- the state after m pairs of syndromes
+pub record After (s : List ℕ) (m : ℕ) (q : State) : Type 0 where
+  pub found : Paired GF512 (series s) m (series (q .locator)) (series (q .other)) (q .len) (element-of (q .b))
 
 -- `copy` is the word, flipped where the locator vanishes; the number of those places, and the list of them, where it has room for all
 pub record Turned (locator : List ℕ) (len : ℕ) (word copy : List ℕ) (flips : Flips) : Type 0 where

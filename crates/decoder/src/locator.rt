@@ -1,6 +1,8 @@
 // The error locator: the shortest recurrence that makes the syndromes, by Berlekamp and Massey, without inverses.
 // The state holds the locator, its length, the textbook's x^m B as one polynomial `other`, which is only ever shifted, and the
 // discrepancy of the last change of length.
+// A step takes two syndromes in. The word is binary, so each second syndrome is the square of an earlier one, and with Newton's identities
+// each second discrepancy is 0 (algebra/proofs/Newtons): nothing is summed for it, and `other` moves two places up.
 ghost use mathlib.Core.Path.{_≡_};
 ghost use mathlib.Core.List.{List, _∷_};
 ghost use Prim.Native.Nat.{ℕ, _+_, _<_, _≤_};
@@ -8,7 +10,7 @@ ghost use lib.ListN.{take};
 ghost use Rattle.algebra.proofs.Series.{conv, mix};
 ghost use Rattle.field.proofs.Elements.{GF512, element-of};
 ghost use Rattle.field.proofs.Values.{series};
-ghost use Rattle.decoder.specs.Locators.{Lent, Small, Ends, After};
+ghost use Rattle.decoder.specs.Locators.{Lent, Ends, Squared, After};
 
 pub struct State {
     pub locator: [u16; 34],
@@ -64,7 +66,7 @@ fn mixed(
     last: usize,
 ) -> [u16; 34]
     requires { ⌜ Lent (now logs) (now powers) × (last < 34) × Ends (now locator) last × Ends (now other) last ⌝ }
-    ensures { λ p. ⌜ ((i : ℕ) → series p i ≡ mix GF512 (element-of b) (element-of d) (series (now (locator .entry))) (series (now (other .entry))) i) × Small p ⌝ }
+    ensures { λ p. ⌜ ((i : ℕ) → series p i ≡ mix GF512 (element-of b) (element-of d) (series (now (locator .entry))) (series (now (other .entry))) i) ⌝ }
 {
     // As slices, whose length the proof knows.
     let f: &[u16] = locator;
@@ -79,26 +81,27 @@ fn mixed(
     out
 }
 
-// x times the polynomial.
+// x^2 times the polynomial.
 fn moved(p: &[u16; 34]) -> [u16; 34]
-    ensures { λ q. ⌜ q ≡ 0 ∷ take 33 (now (p .entry)) ⌝ }
+    ensures { λ q. ⌜ q ≡ 0 ∷ 0 ∷ take 32 (now (p .entry)) ⌝ }
 {
     // As a slice, whose length the proof knows.
     let entries: &[u16] = p;
     let mut out = [0u16; 34];
-    let mut i: usize = 1;
+    let mut i: usize = 2;
     while i < 34 {
-        out[i] = entries[i - 1];
+        out[i] = entries[i - 2];
         i += 1;
     }
     out
 }
 
-// The syndrome r taken in.
-fn step(logs: &[u16; 512], powers: &[u16; 1022], s: &[u16; 32], state: State, r: usize) -> State
-    requires { ⌜ Lent (now logs) (now powers) × (r < 32) × After (now s) r state ⌝ }
-    ensures { λ q. ⌜ After (now (s .entry)) (r + 1) q ⌝ }
+// The pair m of syndromes taken in, s[2 m] and s[2 m + 1].
+fn step(logs: &[u16; 512], powers: &[u16; 1022], s: &[u16; 32], state: State, m: usize) -> State
+    requires { ⌜ Lent (now logs) (now powers) × (m < 16) × After (now s) m state × Squared (now s) (m + 1) ⌝ }
+    ensures { λ q. ⌜ After (now (s .entry)) (m + 1) q ⌝ }
 {
+    let r = m + m;
     let locator = state.locator;
     let other = state.other;
     let len = state.len;
@@ -129,21 +132,16 @@ fn step(logs: &[u16; 512], powers: &[u16; 1022], s: &[u16; 32], state: State, r:
     }
 }
 
-// The state after the first count syndromes.
-pub(crate) fn shortest(
-    logs: &[u16; 512],
-    powers: &[u16; 1022],
-    s: &[u16; 32],
-    count: usize,
-) -> State
-    requires { ⌜ Lent (now logs) (now powers) × (count ≤ 32) ⌝ }
-    ensures { λ q. ⌜ After (now (s .entry)) count q ⌝ }
+// The state after the first t pairs of syndromes.
+pub(crate) fn shortest(logs: &[u16; 512], powers: &[u16; 1022], s: &[u16; 32], t: usize) -> State
+    requires { ⌜ Lent (now logs) (now powers) × (t ≤ 16) × Squared (now s) t ⌝ }
+    ensures { λ q. ⌜ After (now (s .entry)) t q ⌝ }
 {
     let mut state = start();
-    let mut r: usize = 0;
-    while r < count {
-        state = step(logs, powers, s, state, r);
-        r += 1;
+    let mut m: usize = 0;
+    while m < t {
+        state = step(logs, powers, s, state, m);
+        m += 1;
     }
     state
 }

@@ -1,13 +1,13 @@
-// The places at which the locator vanishes.
+// The places at which the locator vanishes: each zero that roots finds is an element; its logarithm says which place of the word it stands for.
 ghost use mathlib.Core.Path.{_≡_};
-ghost use mathlib.Core.Bool.{cond};
-ghost use Prim.Native.Nat.{suc, _+_, _-_, _<_, _≤_};
-ghost use lib.Dec.{eqb};
-ghost use lib.ListN.{length, replicate};
-ghost use Rattle.bits.specs.Words.{Bits};
-ghost use Rattle.decoder.specs.Locators.{Lent, Small, Plus, termAt, valueAt, Turned};
-ghost use Rattle.decoder.specs.Picks.{NoneIn, oneMore, Picked};
-use crate::terms;
+ghost use mathlib.Core.List.{List};
+ghost use Prim.Native.Nat.{ℕ, suc, _+_, _-_, _<_, _≤_};
+ghost use lib.ListN.{length, take, set};
+ghost use Rattle.field.specs.Tables.{logTable};
+ghost use Rattle.bits.specs.Words.{digits};
+ghost use Rattle.packed.specs.Packed.{bits512, padded};
+ghost use Rattle.decoder.specs.Locators.{Ends, Turned};
+ghost use Rattle.decoder.specs.Marks.{rootAt, Exponent, Below, HasRow, Placed, onesOf, onesFrom, Listing, oneMore, allMore};
 use answers::PLACES;
 
 // The places that are flipped in a copy: how many, and the list of the first 16.
@@ -16,68 +16,137 @@ pub struct Flips {
     pub places: [u16; PLACES],
 }
 
-// Adds the term c x^i at x = a^(from + p) to each sums[p]. 0 has no logarithm below 511, and its term is 0.
-fn term(logs: &[u16; 512], powers: &[u16; 1022], c: u16, i: usize, from: usize, sums: &mut [u16])
-    requires { ⌜ Lent (now logs) (now powers) × (c < 512) × (i < 34) × (from ≤ 512) ⌝ }
-    ensures { λ _. ⌜ Plus (termAt c i from) (now (sums .entry)) (now (sums .exit)) ⌝ }
-{
-    let log = logs[c as usize] as usize;
-    if log < 511 {
-        terms::add(powers, (log + i * from) % 511, i, sums);
-    }
+// A copy of a packed word with places flipped.
+pub struct Flipped {
+    pub copy: [u64; 8],
+    pub flips: Flips,
 }
 
-// Adds the value of the locator, of degree at most len, at a^(from + p) to each sums[p].
-fn values(
+// Copies the word of n bits, with each place flipped at which the locator vanishes; place p of n stands for a^(n-1-p), whose inverse is a^(512-n+p).
+pub(crate) fn flip(
     logs: &[u16; 512],
-    powers: &[u16; 1022],
     locator: &[u16; 34],
     len: usize,
-    from: usize,
-    sums: &mut [u16],
-)
-    requires { ⌜ Lent (now logs) (now powers) × (len < 34) × Small (now locator) × (from ≤ 512) ⌝ }
-    ensures { λ _. ⌜ Plus (valueAt (now (locator .entry)) (suc len) from) (now (sums .entry)) (now (sums .exit)) ⌝ }
+    n: usize,
+    words: &[u64; 8],
+) -> Flipped
+    requires { ⌜ (now logs ≡ logTable) × (len ≤ 32) × Ends (now locator) len × (n < 512) × (bits512 (now words) ≡ padded (take n (bits512 (now words)))) ⌝ }
+    ensures { λ r. ⌜ Turned (now (locator .entry)) len (take n (bits512 (now (words .entry)))) (take n (bits512 (r .copy))) (r .flips) × (bits512 (r .copy) ≡ padded (take n (bits512 (r .copy)))) ⌝ }
 {
-    terms::constant(locator[0], sums);
-    let mut i: usize = 1;
-    while i <= len {
-        term(logs, powers, locator[i], i, from, sums);
-        i += 1;
+    let zeros = roots::zeros(locator, len);
+    let marks = marked(logs, &zeros, n);
+    Flipped {
+        copy: packed::xor(words, &marks),
+        flips: listing(&marks),
     }
 }
 
-// Sums of nothing, for the places of a word of any of the codes.
-fn none() -> [u16; 508]
-    ensures { λ r. ⌜ r ≡ replicate 508 0 ⌝ }
+// Marks, packed, for the places of a word of n bits whose elements are among the zeros. The zeros are no packed word: a bit for each element, the
+// lowest first.
+fn marked(logs: &[u16; 512], zeros: &[u64; 8], n: usize) -> [u64; 8]
+    requires { ⌜ (now logs ≡ logTable) × (n < 512) ⌝ }
+    ensures { λ r. ⌜ Placed (now (zeros .entry)) n 512 r ⌝ }
 {
-    [0u16; 508]
-}
-
-// 1 where v is 0.
-fn hit(v: u16) -> u16
-    ensures { λ r. ⌜ r ≡ cond (eqb v 0) 1 0 ⌝ }
-{
-    if v == 0 { 1 } else { 0 }
-}
-
-// 0 only where none of eight sums is, from p on: how many of them are.
-fn hits_in(sums: &[u16], p: usize) -> u16
-    requires { ⌜ p + 8 ≤ length (now sums) ⌝ }
-    ensures { λ r. ⌜ (r ≡ 0 → NoneIn (now (sums .entry)) p (p + 8)) ⌝ }
-{
-    let mut n: u16 = 0;
-    let mut j: usize = 0;
-    while j < 8 {
-        n += hit(sums[p + j]);
-        j += 1;
+    let mut out = [0u64; 8];
+    let mut w: usize = 0;
+    while w < 8 {
+        mark_row(logs, zeros[w], 64 * w, n, &mut out);
+        w += 1;
     }
-    n
+    out
+}
+
+// Marks the places of the elements from base on whose bits are set in x, the lowest first.
+fn mark_row(logs: &[u16; 512], x: u64, base: usize, n: usize, out: &mut [u64; 8])
+    requires { ⌜ (now logs ≡ logTable) × (base + 64 ≤ 512) × (n < 512) ⌝ }
+    ensures { λ _. ⌜ ((z : List ℕ) → HasRow z base x → Placed z n base (now (out .entry)) → Placed z n (base + 64) (now (out .exit))) ⌝ }
+{
+    let mut rest = x;
+    let mut l: usize = 0;
+    while rest != 0 {
+        let k = below(rest);
+        mark_root(logs, base + l + k, n, out);
+        rest = (rest >> k) / 2;
+        l = l + k + 1;
+    }
+}
+
+// How many zeros stand below the lowest 1 digit.
+fn below(x: u64) -> usize
+    requires { ⌜ 0 < x ⌝ }
+    ensures { λ r. ⌜ Below x r ⌝ }
+{
+    u64::trailing_zeros(x) as usize
+}
+
+// Marks the place of the element v, if the word has it.
+fn mark_root(logs: &[u16; 512], v: usize, n: usize, out: &mut [u64; 8])
+    requires { ⌜ (now logs ≡ logTable) × (v < 512) × (n < 512) ⌝ }
+    ensures { λ _. ⌜ ((z : List ℕ) → rootAt z v ≡ 1 → Placed z n v (now (out .entry)) → Placed z n (suc v) (now (out .exit))) ⌝ }
+{
+    let g = exponent(logs, v);
+    if 512 - n <= g {
+        mark(out, g + n - 512);
+    }
+}
+
+// The exponent from 1 to 511 of the element v; 0 for v = 0.
+fn exponent(logs: &[u16; 512], v: usize) -> usize
+    requires { ⌜ (now logs ≡ logTable) × (v < 512) ⌝ }
+    ensures { λ r. ⌜ Exponent v r ⌝ }
+{
+    let e = logs[v] as usize;
+    if e == 0 {
+        return 511;
+    }
+    if 511 < e {
+        return 0;
+    }
+    e
+}
+
+// Sets the bit of the place p.
+fn mark(out: &mut [u64; 8], p: usize)
+    requires { ⌜ p < 512 ⌝ }
+    ensures { λ _. ⌜ (length (now (out .entry)) ≡ 8 → (length (now (out .exit)) ≡ 8) × (bits512 (now (out .exit)) ≡ set (bits512 (now (out .entry))) p 1)) ⌝ }
+{
+    out[p / 64] = out[p / 64] | (0x8000_0000_0000_0000 >> (p % 64));
+}
+
+// The places marked, how many and the list of the first 16.
+fn listing(marks: &[u64; 8]) -> Flips
+    ensures { λ r. ⌜ Listing (onesOf (bits512 (now (marks .entry)))) r ⌝ }
+{
+    let mut flips = Flips {
+        count: 0,
+        places: [0; PLACES],
+    };
+    let mut w: usize = 0;
+    while w < 8 {
+        flips = listed_in(marks[w], 64 * w, flips);
+        w += 1;
+    }
+    flips
+}
+
+// And those that stand in x, whose highest digit is the place `from`.
+fn listed_in(x: u64, from: usize, before: Flips) -> Flips
+    requires { ⌜ (from + 64 ≤ 512) × (before .count ≤ from) ⌝ }
+    ensures { λ r. ⌜ r ≡ allMore before (onesFrom from (digits 64 x)) ⌝ }
+{
+    let mut flips = before;
+    let mut rest = x;
+    while rest != 0 {
+        let lead = u64::leading_zeros(rest) as usize;
+        flips = one_more(flips, from + lead);
+        rest = rest ^ (0x8000_0000_0000_0000 >> lead);
+    }
+    flips
 }
 
 // One place more, behind those listed, where there is room.
 fn one_more(flips: Flips, i: usize) -> Flips
-    requires { ⌜ (flips .count ≤ 508) × (i < 508) ⌝ }
+    requires { ⌜ (flips .count ≤ 512) × (i < 512) ⌝ }
     ensures { λ r. ⌜ r ≡ oneMore flips i ⌝ }
 {
     let count = flips.count;
@@ -89,62 +158,4 @@ fn one_more(flips: Flips, i: usize) -> Flips
         count: count + 1,
         places,
     }
-}
-
-// Flips in copy, and lists, the places from `from` up to below `end` at which the sum is 0.
-fn pick(sums: &[u16], word: &[u8], from: usize, end: usize, copy: &mut [u8], before: Flips) -> Flips
-    requires { ⌜ Bits (now word) × (length (now word) ≤ 508) × (from ≤ end) × (end ≤ length (now word)) × (length (now word) ≤ length (now sums)) ⌝ }
-    requires { ⌜ Picked (now sums) (now word) from (now copy) before ⌝ }
-    ensures { λ r. ⌜ Picked (now (sums .entry)) (now (word .entry)) end (now (copy .exit)) r ⌝ }
-{
-    let mut flips = before;
-    let mut i = from;
-    while i < end {
-        if sums[i] == 0 {
-            copy[i] = 1 - word[i];
-            flips = one_more(flips, i);
-        }
-        i += 1;
-    }
-    flips
-}
-
-// Flips in copy, which holds the word, and lists all places at which the sum is 0: eight at which none is are passed over at once.
-fn pick_all(sums: &[u16], word: &[u8], copy: &mut [u8]) -> Flips
-    requires { ⌜ Bits (now word) × (length (now word) ≤ 508) × (length (now word) ≤ length (now sums)) × (now copy ≡ now word) ⌝ }
-    ensures { λ r. ⌜ Picked (now (sums .entry)) (now (word .entry)) (length (now (word .entry))) (now (copy .exit)) r ⌝ }
-{
-    let n = word.len();
-    let mut flips = Flips {
-        count: 0,
-        places: [0; PLACES],
-    };
-    let mut i: usize = 0;
-    while i + 8 <= n {
-        if hits_in(sums, i) != 0 {
-            flips = pick(sums, word, i, i + 8, copy, flips);
-        }
-        i += 8;
-    }
-    pick(sums, word, i, n, copy, flips)
-}
-
-// Copies word, with each place flipped at which the locator vanishes; place i of n stands for a^(n-1-i), whose inverse is a^(512-n+i).
-pub(crate) fn flip(
-    logs: &[u16; 512],
-    powers: &[u16; 1022],
-    locator: &[u16; 34],
-    len: usize,
-    word: &[u8],
-    copy: &mut [u8],
-) -> Flips
-    requires { ⌜ Lent (now logs) (now powers) × (len < 34) × Small (now locator) ⌝ }
-    requires { ⌜ Bits (now word) × (length (now word) ≤ 508) × (length (now copy) ≡ length (now word)) ⌝ }
-    ensures { λ r. ⌜ Turned (now (locator .entry)) len (now (word .entry)) (now (copy .exit)) r ⌝ }
-{
-    let n = word.len();
-    let mut sums = none();
-    values(logs, powers, locator, len, 512 - n, &mut sums[0..n]);
-    bytes::copy(word, copy);
-    pick_all(&sums, word, copy)
 }

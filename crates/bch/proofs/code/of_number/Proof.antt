@@ -7,13 +7,13 @@ use Rattle.bch.proofs.code.of_number.Statement.{statement}
 use Rattle.bch.proofs.code.of_number.Tie as tie
 
 returns : tie.Need-returns
-returns c = (sound _ rooted1 tt tt tt tt, rw (c .match .keys1))
+returns c = (sound _ rooted1 tt tt tt tt tt, rw (c .match .keys1))
 
 returns-2 : tie.Need-returns-2
-returns-2 c = (sound _ rooted2 tt tt tt tt, rw (c .match .keys2))
+returns-2 c = (sound _ rooted2 tt tt tt tt tt, rw (c .match .keys2))
 
 returns-3 : tie.Need-returns-3
-returns-3 c = (sound _ rooted3 tt tt tt tt, rw (c .match .keys3))
+returns-3 c = (sound _ rooted3 tt tt tt tt tt, rw (c .match .keys3))
 
 returns-4 : tie.Need-returns-4
 returns-4 c =

@@ -1,11 +1,11 @@
 -- `bch::register::remainder` meets its contract: what is left of the word is taken in after what the register has taken.
 -- Assumes nothing.
 use mathlib.Core.Path.{_≡_, refl, sym, ap, _∙_}
-use mathlib.Core.List.{List, _∷_, _++_}
+use mathlib.Core.List.{List, _++_}
 use Prim.Native.Nat.{ℕ, _+_, _-_, _%_, _^_, _≤_, _<_}
 use native.Mathlib.Omega.{arith}
 use native.Mathlib.Numerals.{add-one}
-use lib.ListN.{length, getD, drop, replicate, drop-of-length-le}
+use lib.ListN.{length, getD, drop, drop-of-length-le}
 use lib.Seq.{drop-cons}
 use Rattle.bits.specs.Words.{lowest, digits}
 use Rattle.bch.specs.Registers.{contents, whole}
@@ -13,7 +13,7 @@ use Rattle.bits.specs.Remainders.{step, remainder, remainderFrom}
 use Rattle.bits.proofs.Digits.{length-lowest, lowest-at}
 use Rattle.bits.proofs.Remainders.{from-append}
 use Rattle.bch.proofs.Triples.{joined-lt}
-use Rattle.bch.proofs.Eights.{first-unit, next-unit, unit-at-8}
+use Rattle.bch.proofs.Eights.{first-unit, next-part}
 use borrow.Author.Needs.{needs}
 use Rattle.bch.proofs.register.remainder.Statement.{statement}
 use Rattle.bch.proofs.register.remainder.Tie as tie
@@ -28,10 +28,6 @@ turn g x y w i h e = rw (e ∙ ap (step 192 g x) (sym (lowest-at w i)), add-one,
 turn8 : (g x y b : ℕ) (w : List ℕ) (i : ℕ) → drop i w ≡ digits 8 b ++ drop (i + 8) w → y ≡ remainderFrom 192 g x (digits 8 b)
     → remainderFrom 192 g y (drop (i + 8) w) ≡ remainderFrom 192 g x (drop i w)
 turn8 g x y b w i d e = rw (e, d) (sym (from-append 192 g x (digits 8 b) (drop (i + 8) w)))
-
--- where x stands at 8 in the lower half, one more zero behind gives the first of the higher half
-first-high : (g x : ℕ) → x ≡ remainder 192 g (digits 4 8 ++ replicate 0 0) → step 192 g x 0 ≡ remainder 192 g (1 ∷ replicate 4 0)
-first-high g x e = ap (λ (n : ℕ). step 192 g n 0) (e ∙ unit-at-8 g) ∙ sym (next-unit g 3)
 
 done : (g x : ℕ) (w : List ℕ) (i : ℕ) → length w ≤ i → x ≡ remainderFrom 192 g x (drop i w)
 unfolding remainderFrom
@@ -70,7 +66,7 @@ loop-again c =
     let good = s .good in
     let less : n < 2 ^ 192 = joined-lt {W = 2 ^ 64} (omega arith) (omega arith) (omega arith) in
     let low = f .before .before .before .sixteen .ensures 0 (first-unit n less) in
-    let high = f .sixteen2 .ensures 4 (f .before .step .ensures ∙ first-high g _ (low 8 _ (omega arith))) in
+    let high = f .sixteen2 .ensures 4 (f .before .step .ensures ∙ next-part g _ 0 (low 8 _ (omega arith))) in
     let slot = at .slot .ensures in
     let taken = c .step8 .ensures g _ _ (slot .0) (high _ _ (omega arith)) (low _ _ (omega arith)) in
     (omega arith, turn8 g (contents (l .r)) _ _ w (l .i) (at .before .eight .ensures .1) taken ∙ l .inv .1)

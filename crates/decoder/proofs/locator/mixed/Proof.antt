@@ -4,7 +4,7 @@ use mathlib.Core.Path.{_≡_}
 use Prim.Native.Nat.{_≤_, _+_, _-_}
 use native.Mathlib.Omega.{arith}
 use lib.ListN.{length, length-set}
-use Rattle.decoder.proofs.Mixes.{Mixed, mixed-none, mixed-more, series-mixed, small-mixed}
+use Rattle.decoder.proofs.Mixes.{Mixed, mixed-none, mixed-more, series-mixed}
 use borrow.Author.Needs.{needs}
 use Rattle.decoder.proofs.locator.mixed.Statement.{statement}
 use Rattle.decoder.proofs.locator.mixed.Tie as tie
@@ -31,7 +31,7 @@ returns c =
     let l = c .before .loop in
     let start = c .before .before .before .before in
     let done = l .inv .2 in
-    (series-mixed done (start .pre .0) (omega arith) (start .pre .2) (start .pre .3), small-mixed done (start .pre .0))
+    series-mixed done (start .pre .0) (omega arith) (start .pre .2) (start .pre .3)
 
 pub mixed-spec : {M : Type 1} → statement M
 mixed-spec =

@@ -1,4 +1,4 @@
--- `decoder::locator::moved` meets its contract: the entries before i are those of the list with 0 in front.
+-- `decoder::locator::moved` meets its contract: the entries before i are those of the list with two 0s in front.
 -- Assumes nothing.
 use mathlib.Core.Path.{_≡_, sym, _∙_}
 use mathlib.Core.List.{_∷_}
@@ -12,7 +12,7 @@ use Rattle.decoder.proofs.locator.moved.Statement.{statement}
 use Rattle.decoder.proofs.locator.moved.Tie as tie
 
 abbrev Inv-loop : tie.InvT-loop
-Inv-loop p entries out₀ i₀ out i = (1 ≤ i) × (i ≤ 34) × (length out ≡ 34) × (take i out ≡ take i (0 ∷ p))
+Inv-loop p entries out₀ i₀ out i = (2 ≤ i) × (i ≤ 34) × (length out ≡ 34) × (take i out ≡ take i (0 ∷ 0 ∷ p))
 
 abbrev μ-loop : tie.MeasureT-loop
 μ-loop p entries out₀ i₀ out i = 34 - i

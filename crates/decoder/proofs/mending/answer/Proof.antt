@@ -1,57 +1,49 @@
 -- `decoder::mending::answer` meets its contract: a word of which nothing is left is a codeword.
 -- Assumes nothing.
-use mathlib.Core.Path.{_≡_, sym, ap, _∙_}
+use mathlib.Core.Path.{sym, _∙_}
 use mathlib.Core.Logic.{inl}
-use Prim.Native.Nat.{ℕ, _-_}
-use native.Mathlib.Omega.{arith}
 use borrow.Author.Tests.{eqb-true}
-use lib.ListN.{length, take}
-use lib.Seq.{length-take-le}
 use Rattle.bch.specs.Registers.{contents}
-use Rattle.bits.proofs.Parts.{copied}
+use Rattle.decoder.specs.Candidates.{wordOf, Ready}
 use Rattle.decoder.proofs.Leftovers.{codeword-of-zero}
 use Rattle.decoder.proofs.Attempts.{clean}
+use Rattle.decoder.proofs.PackedWords.{word-long, word-bits, written}
 use borrow.Author.Needs.{needs}
 use Rattle.decoder.proofs.mending.answer.Statement.{statement}
 use Rattle.decoder.proofs.mending.answer.Tie as tie
 
+made : (q : tie.After-table) → Ready (q .before .before .args .c) (q .table .result)
+made q = record { sound = q .before .before .pre .0; rule = q .table .ensures }
+
+leftover-requires : tie.Need-leftover-requires
+leftover-requires c κs = let q = c .before .before in (made q, q .before .before .pre .1)
+
 returns : tie.Need-returns
 returns c =
-    let start = c .before .before .before .before .before .before .before .before .before .before in
-    let test = c .before .before .before .before .before in
+    let test = c .before in
     let left = test .before .before .leftover in
+    let s = test .before .before .before .before .before .before .before in
+    let sound = s .pre .0 in
+    let words = s .args .t2 in
     let zero = sym (left .ensures) ∙ eqb-true (contents (left .result)) 0 (sym (test .before .is-zero .ensures) ∙ test .if1 .taken) in
     rw (c .unchanged .ensures)
-    (inl (clean (codeword-of-zero (start .pre .sound) (start .args .bits .now) (start .pre .bits) (start .pre .long) zero)
-    (c .before .before .before .copy .ensures .1 ∙ copied (start .args .bits .now) (start .args .out .now) (start .args .c .n) (start .pre .long))))
+    (inl (clean (codeword-of-zero sound (wordOf (s .args .c) words) (word-bits sound words) (word-long sound words) zero)
+    (written sound words (s .pre .1))))
 
 mend-requires : tie.Need-mend-requires
 mend-requires c κs =
-    let start = c .before .before .before .before .before .before .before .before in
-    let e : start .args .c .n - 0 ≡ start .args .c .n = omega arith in (
-      start .pre,
-      (
-        ap (λ (n : ℕ). length (take n (c .before .before .zeros .result))) e
-            ∙ length-take-le (start .args .c .n) (c .before .before .zeros .result)
-            (omega (arith, start .pre .sound .short, c .before .before .zeros .ensures)),
-        c .before .before .before .before .before .leftover .ensures,
-      ),
-    )
+    let left = c .before .before .before in
+    let q = left .before .before .before in
+    (made q, q .before .before .pre .1, left .leftover .ensures)
 
 pub answer-spec : {M : Type 1} → statement M
 answer-spec =
     tie.close
     (tie.spec
     (λ c κs. search needs)
+    leftover-requires
     (λ c κs. search needs)
     (λ c κs. search needs)
-    (λ c κs. search needs)
-    (λ c. search needs)
     returns
-    (λ c κs. search needs)
-    (λ c. search needs)
-    (λ c. search needs)
-    (λ c. search needs)
     mend-requires
-    (λ c. search needs)
     (λ c. search needs))

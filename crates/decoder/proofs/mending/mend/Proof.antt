@@ -1,43 +1,45 @@
--- `decoder::mending::mend` meets its contract: the first try gives the answer or writes nothing, and the second gives it for every word.
+-- `decoder::mending::mend` meets its contract: the first try gives the answer or nothing, and the second gives it for every word.
 -- Assumes nothing.
-use mathlib.Core.Path.{ap, subst}
+use mathlib.Core.Path.{subst}
 use mathlib.Core.Logic.{inl}
-use native.Mathlib.Omega.{arith}
-use lib.ListN.{length}
+use lib.ListN.{replicate}
 use Rattle.bch.specs.Held.{codeOf}
-use Rattle.decoder.specs.Candidates.{SingleBy}
+use Rattle.packed.specs.Packed.{bits512}
+use Rattle.decoder.specs.Candidates.{wordOf, SingleBy}
 use borrow.Author.Needs.{needs}
 use Rattle.decoder.proofs.mending.mend.Statement.{statement}
 use Rattle.decoder.proofs.mending.mend.Tie as tie
 
+-- the syndromes, seen from the first try
+abbrev known : tie.After-single → tie.After-syndromes
+known q = q .before .before .before .before
+
+-- and the tables
+abbrev tables : tie.After-single → tie.After-power-table
+tables q = known q .before .before .before .before
+
+-- and the start
+abbrev start : tie.After-single → tie.Start
+start q = tables q .before .before
+
 several-requires : tie.Need-several-requires
 several-requires c κs =
-    let q = c .before .before .before .before .before .before .before .before .before .before .before in
-    let tables = q .before .before .before .before .before .before .before .before .before .before in
-    let s = tables .before .before .before .before .before in
-    let kept = rw (c .before .before .before .before .before .enum-told2 .given .1) at (q .single .ensures .0) in (
+    let q = c .before .before .before .before .before .before in
+    let s = start q in (
+      (s .pre .0, s .pre .1),
       (
-        record { sound = s .pre .0 .sound; bits = s .pre .0 .bits; long = s .pre .0 .long; room = omega (arith, s .pre .0 .room, ap length kept) },
-        q .single .ensures .1,
-      ),
-      (
-        record { logs-are = tables .before .log-table .ensures; powers-are = tables .power-table .ensures },
-        rw (s .pre .1 .1) at (q .before .before .before .before .before .before .syndromes .ensures),
+        record { logs-are = tables q .before .log-table .ensures; powers-are = tables q .power-table .ensures },
+        rw (s .pre .2) at (known q .syndromes .ensures),
       ),
     )
 
 returns : tie.Need-returns
 returns c =
-    let q = c .before .before .before .before .before .before in
-    let s = q .before .before .before .before .before .before .before .before .before .before .before .before .before .before .before in
-    inl (subst (λ d. SingleBy (codeOf (s .args .c)) (s .args .bits .now) (s .args .out .now) (q .single .result) d (q .single .last .1 .1 .1 .1 .1 .1 .0))
-    (c .enum-told .given .1) (q .single .ensures .0))
-
-returns-2 : tie.Need-returns-2
-returns-2 c =
-    let told = c .before .before .before .before .before .before .before .before .before .before in
-    let kept = rw (told .enum-told2 .given .1) at (told .before .before .before .before .before .before .single .ensures .0) in
-    rw kept at (c .before .before .before .before .several .ensures)
+    let q = c .before .before .before in
+    let s = start q in
+    inl (subst (λ d. SingleBy (codeOf (s .args .c)) (wordOf (s .args .c) (s .args .words)) (replicate 512 0) (q .single .result .told) d
+    (bits512 (q .single .result .bits)))
+    (c .enum-told .given .1) (q .single .ensures))
 
 pub mend-spec : {M : Type 1} → statement M
 mend-spec =
@@ -51,9 +53,5 @@ mend-spec =
     (λ c. search needs)
     (λ c. search needs)
     several-requires
-    (λ c. search needs)
-    (λ c. search needs)
     returns
-    (λ c. search needs)
-    (λ c. search needs)
-    returns-2)
+    (λ c. search needs))

@@ -17,8 +17,8 @@ more flips l = record { count = flips .count + 1; places = l }
 returns : tie.Need-returns
 returns c =
     let flips = c .before .before .args .flips in
-    ⊎-elim (λ w. rw (lt-ltb (flips .count) 16 (w .0 .taken)) (ap (more flips) (w .1))) (λ w. rw (le-ltb (flips .count) 16 (w .0 .left)) (ap (more flips) (w .1)))
-    (c .if1 .came)
+    ⊎-elim (λ w. rw (lt-ltb (flips .count) 16 (w .0 .taken)) (ap (more flips) (w .1)))
+    (λ w. rw (le-ltb (flips .count) 16 (w .0 .left)) (ap (more flips) (w .1))) (c .if1 .came)
 
 pub one-more-spec : {M : Type 1} → statement M
 one-more-spec = tie.close (tie.spec (λ c. search needs) (λ c. search needs) (λ c. search needs) (λ c. search needs) returns)

@@ -3,7 +3,7 @@
 use native.Mathlib.Nat.{mod-lt}
 use native.Mathlib.Omega.{arith}
 use lib.Dec.{lit<}
-use Rattle.decoder.proofs.Summands.{log-le}
+use Rattle.decoder.proofs.Lents.{log-le}
 use Rattle.decoder.proofs.DigitTables.{raised-power, raised-zero}
 use borrow.Author.Needs.{needs}
 use Rattle.decoder.proofs.syndrome.raised.Statement.{statement}

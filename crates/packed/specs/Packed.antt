@@ -1,0 +1,19 @@
+-- Bits in machine words: 64 binary digits in each, the highest first. Eight machine words hold 512 bits.
+-- Assumes nothing.
+use mathlib.Core.List.{List, [], _++_}
+use Prim.Native.Nat.{ℕ, zero, suc, _-_}
+use lib.ListN.{length, getD, replicate}
+use Rattle.bits.specs.Words.{digits}
+
+-- the bits of n machine words from the i-th on, one after the other
+unfoldable pub bitsFrom : ℕ → ℕ → List ℕ → List ℕ
+bitsFrom zero i words = []
+bitsFrom (suc n) i words = digits 64 (getD words i 0) ++ bitsFrom n (suc i) words
+
+-- the bits of eight
+unfoldable pub bits512 : List ℕ → List ℕ
+bits512 words = bitsFrom 8 0 words
+
+-- a word of at most 512 bits stands first, with zeros behind
+abbrev pub padded : List ℕ → List ℕ
+padded word = word ++ replicate (512 - length word) 0

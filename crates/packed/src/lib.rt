@@ -1,0 +1,177 @@
+// Words packed: bits in machine words, 64 binary digits in each, the highest first. Eight machine words hold 512 bits; a shorter word stands first, with
+// zeros behind.
+ghost use mathlib.Core.Path.{_≡_};
+ghost use mathlib.Core.List.{_++_, zipWith};
+ghost use Prim.Native.Nat.{ℕ, _+_, _-_, _*_, _%_, _<_, _≤_};
+ghost use lib.Bits.{bitXor};
+ghost use lib.ListN.{length, take, drop, getD, set, replicate};
+ghost use Rattle.bits.specs.Words.{lowest, digits};
+ghost use Rattle.packed.specs.Packed.{bits512, padded};
+ghost use Rattle.packed.specs.Sides.{beside};
+
+// A word packed, the first 512 of its elements; an element counts as its lowest binary digit.
+pub fn pack(word: &[u8]) -> [u64; 8]
+    ensures { λ r. ⌜ bits512 r ≡ padded (take 512 (lowest (now (word .entry)))) ⌝ }
+{
+    let mut out = [0u64; 8];
+    let mut w: usize = 0;
+    while w < 8 {
+        out[w] = piece(word, 64 * w);
+        w += 1;
+    }
+    out
+}
+
+// The sums of bits without carries, place by place.
+pub fn xor(v: &[u64; 8], w: &[u64; 8]) -> [u64; 8]
+    ensures { λ r. ⌜ bits512 r ≡ zipWith bitXor (bits512 (now (v .entry))) (bits512 (now (w .entry))) ⌝ }
+{
+    let mut out = [0u64; 8];
+    let mut i: usize = 0;
+    while i < 8 {
+        out[i] = v[i] ^ w[i];
+        i += 1;
+    }
+    out
+}
+
+// The bit of a place flipped, if there is such a place.
+pub fn flipped(words: &[u64; 8], p: usize) -> [u64; 8]
+    ensures { λ r. ⌜ bits512 r ≡ set (bits512 (now (words .entry))) p (1 - getD (bits512 (now (words .entry))) p 0) ⌝ }
+{
+    // one by one: the check then knows how many there are
+    let mut out = [
+        words[0],
+        words[1],
+        words[2],
+        words[3],
+        words[4],
+        words[5],
+        words[6],
+        words[7],
+    ];
+    if p < 512 {
+        out[p / 64] = out[p / 64] ^ (0x8000_0000_0000_0000 >> (p % 64));
+    }
+    out
+}
+
+// The first n bits, with zeros behind.
+pub fn first(words: &[u64; 8], n: usize) -> [u64; 8]
+    ensures { λ r. ⌜ bits512 r ≡ padded (take n (bits512 (now (words .entry)))) ⌝ }
+{
+    let mut out = [0u64; 8];
+    let mut w: usize = 0;
+    while w < 8 {
+        out[w] = top(words[w], n, 64 * w);
+        w += 1;
+    }
+    out
+}
+
+// Of the digits of x, which stand at the places from `from` on, those before the place n.
+fn top(x: u64, n: usize, from: usize) -> u64
+    requires { ⌜ from < 512 ⌝ }
+    ensures { λ r. ⌜ digits 64 r ≡ take (n - from) (digits 64 x) ++ replicate (64 - (n - from)) 0 ⌝ }
+{
+    if from + 64 <= n {
+        return x;
+    }
+    if n <= from {
+        return 0;
+    }
+    x >> (64 - (n - from)) << (64 - (n - from))
+}
+
+// The bits from i on, 64 of them or as many as there are, with zeros behind.
+fn piece(word: &[u8], i: usize) -> u64
+    requires { ⌜ i < 512 ⌝ }
+    ensures { λ r. ⌜ digits 64 r ≡ take 64 (drop i (lowest (now (word .entry)))) ++ replicate (64 - (length (now (word .entry)) - i)) 0 ⌝ }
+{
+    if i + 64 <= word.len() {
+        return full(word, i);
+    }
+    if word.len() <= i {
+        return 0;
+    }
+    part(word, i)
+}
+
+// The 64 bits from i on.
+fn full(word: &[u8], i: usize) -> u64
+    requires { ⌜ i + 64 ≤ length (now word) ⌝ }
+    ensures { λ r. ⌜ drop i (lowest (now (word .entry))) ≡ digits 64 r ++ drop (i + 64) (lowest (now (word .entry))) ⌝ }
+{
+    let mut x: u64 = 0;
+    let mut j: usize = 0;
+    while j < 64 {
+        x = x << 8 | eight(word, i + j);
+        j += 8;
+    }
+    x
+}
+
+// The bits from i on, fewer than 64, at the high end.
+fn part(word: &[u8], i: usize) -> u64
+    requires { ⌜ (i < length (now word)) × (length (now word) < i + 64) × (i < 512) ⌝ }
+    ensures { λ r. ⌜ digits 64 r ≡ drop i (lowest (now (word .entry))) ++ replicate (64 - (length (now (word .entry)) - i)) 0 ⌝ }
+{
+    let m = word.len() - i;
+    let mut x: u64 = 0;
+    let mut j: usize = 0;
+    while j + 8 <= m {
+        x = x << 8 | eight(word, i + j);
+        j += 8;
+    }
+    while j < m {
+        x = x << 1 | low(word[i + j]);
+        j += 1;
+    }
+    x << (64 - m)
+}
+
+// The number of the eight bits from i on.
+fn eight(word: &[u8], i: usize) -> u64
+    requires { ⌜ i + 7 < length (now word) ⌝ }
+    ensures { λ b. ⌜ (b < 256) × (drop i (lowest (now (word .entry))) ≡ digits 8 b ++ drop (i + 8) (lowest (now (word .entry)))) ⌝ }
+{
+    squeeze(load(word, i) & 0x0101_0101_0101_0101)
+}
+
+// The lowest digits of eight elements, which stand side by side in x, brought together.
+fn squeeze(x: u64) -> u64
+    ensures { λ r. ⌜ ((z : ℕ) → z < 256 → x ≡ beside (digits 8 z) → r ≡ z) ⌝ }
+{
+    let y = (x | x >> 7) & 0x0003_0003_0003_0003;
+    let z = (y | y >> 14) & 0x0000_000f_0000_000f;
+    (z | z >> 28) & 0xff
+}
+
+// Eight elements side by side, the first highest.
+fn load(word: &[u8], i: usize) -> u64
+    requires { ⌜ i + 7 < length (now word) ⌝ }
+    ensures { λ r. ⌜ r ≡ beside (take 8 (drop i (now (word .entry)))) ⌝ }
+{
+    wide(word[i]) << 56
+        | wide(word[i + 1]) << 48
+        | wide(word[i + 2]) << 40
+        | wide(word[i + 3]) << 32
+        | wide(word[i + 4]) << 24
+        | wide(word[i + 5]) << 16
+        | wide(word[i + 6]) << 8
+        | wide(word[i + 7])
+}
+
+// An element, as a machine word.
+fn wide(x: u8) -> u64
+    ensures { λ r. ⌜ (r ≡ x) × (r < 256) ⌝ }
+{
+    x as u64
+}
+
+// The lowest digit of an element.
+fn low(b: u8) -> u64
+    ensures { λ w. ⌜ (w ≡ b % 2) × (w < 2) ⌝ }
+{
+    (b % 2) as u64
+}

@@ -1,0 +1,193 @@
+// Remainders of packed words by a generator, sixteen bits a step, from its table of four parts of sixteen entries (bch's `register::table`), which is lent.
+ghost use mathlib.Core.Path.{_≡_};
+ghost use mathlib.Core.List.{_++_};
+ghost use Prim.Native.Nat.{_-_, _*_, _/_, _%_, _^_, _≤_, _<_, min};
+ghost use lib.Bits.{bitXor};
+ghost use lib.ListN.{getD, take, drop};
+ghost use Rattle.bits.specs.Words.{digits};
+ghost use Rattle.packed.specs.Packed.{bits512};
+ghost use Rattle.bch.specs.Registers.{contents, atTop, entryAt};
+ghost use Rattle.remainders.specs.Taking.{sixteenBy, turnBy8, turnBy16, bytesBy, takenBy, leftoverBy};
+use bch::register;
+use bch::register::Register;
+
+// What is left of a packed word whose first k bits are information, whole bytes: the bytes among them, 63 at most, taken in by the lent table, and the
+// 192 bits from the place k on added.
+pub fn leftover(table: &[u64; 192], k: usize, words: &[u64; 8]) -> Register
+    ensures { λ q. ⌜ contents q ≡ leftoverBy (now (table .entry)) k (now (words .entry)) ⌝ }
+{
+    register::xor(taken(table, k / 8, words), behind(words, k))
+}
+
+// The first m bytes, 63 at most, taken in by the lent table.
+fn taken(table: &[u64; 192], m: usize, words: &[u64; 8]) -> Register
+    ensures { λ q. ⌜ contents q ≡ takenBy (now (table .entry)) m (now (words .entry)) ⌝ }
+{
+    let bytes = least(m, 63);
+    let mut r = Register {
+        high: 0,
+        mid: 0,
+        low: 0,
+    };
+    let mut i: usize = 0;
+    while i < bytes / 8 {
+        r = machine_word(table, r, words[i]);
+        i += 1;
+    }
+    some_bytes(table, r, words[bytes / 8], bytes % 8)
+}
+
+// The 64 digits of v into the register.
+fn machine_word(table: &[u64; 192], r: Register, v: u64) -> Register
+    ensures { λ q. ⌜ contents q ≡ bytesBy (now (table .entry)) 8 (contents r) v ⌝ }
+{
+    let r0 = plus_top(r, v);
+    let r1 = turn16(table, r0);
+    let r2 = turn16(table, r1);
+    let r3 = turn16(table, r2);
+    turn16(table, r3)
+}
+
+// The first n of the eight bytes of v into the register.
+fn some_bytes(table: &[u64; 192], r: Register, v: u64, n: usize) -> Register
+    requires { ⌜ n < 8 ⌝ }
+    ensures { λ q. ⌜ contents q ≡ bytesBy (now (table .entry)) n (contents r) v ⌝ }
+{
+    let mut s = plus_top(r, first_bytes(v, n));
+    let mut j: usize = 0;
+    while j + 2 <= n {
+        s = turn16(table, s);
+        j += 2;
+    }
+    if j < n { turn8(table, s) } else { s }
+}
+
+// The first n of the eight bytes of v, and zeros behind them.
+fn first_bytes(v: u64, n: usize) -> u64
+    requires { ⌜ n < 8 ⌝ }
+    ensures { λ b. ⌜ b ≡ v / 2 ^ (64 - 8 * n) * 2 ^ (64 - 8 * n) % 2 ^ 64 ⌝ }
+{
+    if n == 0 {
+        0
+    } else {
+        v >> (64 - 8 * n) << (64 - 8 * n)
+    }
+}
+
+// The digits of v added to the highest 64.
+fn plus_top(r: Register, v: u64) -> Register
+    ensures { λ q. ⌜ contents q ≡ bitXor (contents r) (v * 2 ^ 128) ⌝ }
+{
+    Register {
+        high: r.high ^ v,
+        mid: r.mid,
+        low: r.low,
+    }
+}
+
+// Sixteen zeros into the register.
+fn turn16(table: &[u64; 192], r: Register) -> Register
+    ensures { λ q. ⌜ contents q ≡ turnBy16 (now (table .entry)) (contents r) ⌝ }
+{
+    register::xor(up16(r), sixteen(table, top16(r)))
+}
+
+// Eight zeros into the register.
+fn turn8(table: &[u64; 192], r: Register) -> Register
+    ensures { λ q. ⌜ contents q ≡ turnBy8 (now (table .entry)) (contents r) ⌝ }
+{
+    let at = register::top8(r) as usize;
+    register::xor(
+        register::up8(r),
+        register::xor(entry(table, 16 + at / 16), entry(table, at % 16)),
+    )
+}
+
+// The sixteen highest digits.
+fn top16(r: Register) -> usize
+    ensures { λ i. ⌜ (i ≡ contents r / 2 ^ 176) × (i < 65536) ⌝ }
+{
+    (r.high >> 48) as usize
+}
+
+// Sixteen places up; the highest sixteen digits fall out.
+fn up16(r: Register) -> Register
+    ensures { λ q. ⌜ contents q ≡ contents r * 2 ^ 16 % 2 ^ 192 ⌝ }
+{
+    Register {
+        high: r.high % 0x1_0000_0000_0000 * 65536 + r.mid / 0x1_0000_0000_0000,
+        mid: r.mid % 0x1_0000_0000_0000 * 65536 + r.low / 0x1_0000_0000_0000,
+        low: r.low % 0x1_0000_0000_0000 * 65536,
+    }
+}
+
+// What the table has for the sixteen digits of z.
+fn sixteen(table: &[u64; 192], z: usize) -> Register
+    requires { ⌜ z < 65536 ⌝ }
+    ensures { λ q. ⌜ contents q ≡ sixteenBy (now (table .entry)) z ⌝ }
+{
+    register::xor(
+        register::xor(entry(table, 48 + z / 4096), entry(table, 32 + z / 256 % 16)),
+        register::xor(entry(table, 16 + z / 16 % 16), entry(table, z % 16)),
+    )
+}
+
+// The entry i.
+fn entry(table: &[u64; 192], i: usize) -> Register
+    requires { ⌜ i < 64 ⌝ }
+    ensures { λ q. ⌜ contents q ≡ entryAt (now (table .entry)) i ⌝ }
+{
+    Register {
+        high: table[i],
+        mid: table[64 + i],
+        low: table[128 + i],
+    }
+}
+
+// The lesser of i and j.
+fn least(i: usize, j: usize) -> usize
+    ensures { λ r. ⌜ (r ≡ min i j) × (r ≤ j) ⌝ }
+{
+    if i < j { i } else { j }
+}
+
+// The 192 bits from the place `at` on at the top of a register; behind the last there are zeros.
+fn behind(words: &[u64; 8], at: usize) -> Register
+    ensures { λ q. ⌜ contents q ≡ atTop (take 192 (drop at (bits512 (now (words .entry))))) ⌝ }
+{
+    if 511 < at {
+        return Register {
+            high: 0,
+            mid: 0,
+            low: 0,
+        };
+    }
+    let i = at / 64;
+    let p = at % 64;
+    let a = machine_word_at(words, i + 1);
+    let b = machine_word_at(words, i + 2);
+    Register {
+        high: across(words[i], a, p),
+        mid: across(a, b, p),
+        low: across(b, machine_word_at(words, i + 3), p),
+    }
+}
+
+// The machine word i, 0 behind the last.
+fn machine_word_at(words: &[u64; 8], i: usize) -> u64
+    ensures { λ r. ⌜ r ≡ getD (take 8 (now (words .entry))) i 0 ⌝ }
+{
+    if i < 8 { words[i] } else { 0 }
+}
+
+// The digits of high from the place p on, and behind them the p highest of low.
+fn across(high: u64, low: u64, p: usize) -> u64
+    requires { ⌜ p < 64 ⌝ }
+    ensures { λ r. ⌜ digits 64 r ≡ drop p (digits 64 high) ++ take p (digits 64 low) ⌝ }
+{
+    if p == 0 {
+        high
+    } else {
+        high << p | low >> (64 - p)
+    }
+}
