@@ -1,4 +1,5 @@
-//! The rows of Payload B: all QPSK and all 1024QAM, over more and more OFDM symbols, so that the time for each is seen.
+//! The rows of Payload B: all QPSK, all 1024QAM and all sizes mixed, over more and more OFDM symbols, so that the time for
+//! each is seen.
 
 use crate::rows::{Answer, Calls, Input, Row, GROUP};
 use crate::{ours, theirs};
@@ -8,34 +9,38 @@ use second::{bch, bits, grid, payload_b, scrambler};
 /// OFDM symbols in each row, over all its calls.
 pub const SYMBOLS: usize = 1024;
 
-/// The schemes: their names, and the bits of every point.
-const SCHEMES: [(&str, u8); 2] = [("QPSK", 2), ("1024QAM", 10)];
+/// OFDM symbols of a call, beside the least that hold a block: so many, and the most of a frame.
+pub const SOME: usize = 16;
+pub const MOST: usize = payload_b::MOST_SYMBOLS as usize;
+
+/// A scheme's name, and the bits of point s, from 0.
+type Scheme = (&'static str, fn(usize) -> u8);
+
+const SCHEMES: [Scheme; 3] = [("QPSK", |_| 2), ("mixed", |s| 2 + (s % 9) as u8), ("1024QAM", |_| 10)];
 
 const SEND_B: Calls = (ours::send_b, theirs::send_b);
 const RECEIVE_B: Calls = (ours::receive_b, theirs::receive_b);
 
-/// All rows of Payload B, each with the OFDM symbols of a call.
-pub fn all() -> impl Iterator<Item = (usize, Row)> {
+/// All rows of Payload B.
+pub fn all() -> impl Iterator<Item = Row> {
     [2, 1, 0].into_iter().flat_map(|mode| SCHEMES.into_iter().flat_map(move |scheme| of_scheme(mode, scheme)))
 }
 
-/// Receiving over 1, 16 and 256 OFDM symbols, clean and, if coded, with t hits in each block; and sending over 256 or, if
-/// uncoded, over all three. Where one OFDM symbol holds no block, two are the least.
-fn of_scheme(mode: u8, scheme: (&'static str, u8)) -> impl Iterator<Item = (usize, Row)> {
+/// Receiving, clean and, if coded, with t hits in each block, and sending, each over the three numbers of OFDM symbols.
+/// Where one OFDM symbol holds no block, two are the least.
+fn of_scheme(mode: u8, scheme: Scheme) -> impl Iterator<Item = Row> {
     let longest = move |symbols: usize| Longest { mode, scheme, symbols };
     let least = if longest(1).blocks() > 0 { 1 } else { 2 };
-    let received = move |hits: usize| [least, 16, 256].map(|symbols| (symbols, longest(symbols).received(hits)));
-    let code = bch::code(mode);
-    let hit = code.into_iter().flat_map(move |code| received(code.t));
-    let sent: &[usize] = if code.is_some() { &[256] } else { &[1, 16, 256] };
-    received(0).into_iter().chain(hit).chain(sent.iter().map(move |&symbols| (symbols, longest(symbols).sent())))
+    let frames = move || [least, SOME, MOST].into_iter().map(longest);
+    let hits = [0].into_iter().chain(bch::code(mode).map(|code| code.t));
+    hits.flat_map(move |hits| frames().map(move |frame| frame.received(hits))).chain(frames().map(Longest::sent))
 }
 
 /// The longest frame that so many OFDM symbols hold.
 #[derive(Clone, Copy)]
 struct Longest {
     mode: u8,
-    scheme: (&'static str, u8),
+    scheme: Scheme,
     symbols: usize,
 }
 
@@ -46,7 +51,8 @@ impl Longest {
     }
 
     fn blocks(self) -> usize {
-        self.symbols * grid::AVAILABLE * self.scheme.1 as usize / self.block().1
+        let symbol_bits: usize = self.entries().into_iter().map(usize::from).sum();
+        self.symbols * symbol_bits / self.block().1
     }
 
     fn bytes(self) -> usize {
@@ -54,7 +60,7 @@ impl Longest {
     }
 
     fn entries(self) -> Vec<u8> {
-        vec![self.scheme.1; grid::AVAILABLE]
+        (0..grid::AVAILABLE).map(self.scheme.1).collect()
     }
 
     /// Sending it.
@@ -76,6 +82,7 @@ impl Longest {
         Row {
             of: format!("Payload B, mode {}, {}", self.mode, self.scheme.0),
             name: format!("{job}, {} symbol{plural}, {} bytes{hit}", self.symbols, self.bytes()),
+            symbols: self.symbols,
             ours,
             theirs,
             inputs: (0..SYMBOLS / self.symbols).map(|_| input(&mut rng)).collect(),

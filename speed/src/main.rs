@@ -1,6 +1,9 @@
-//! Nanoseconds a call, ours beside second's: tables in Markdown. Before a row is timed, every answer and every buffer
-//! of the two is compared; a difference ends the program with status 1.
+//! Nanoseconds a call, ours beside second's: tables in Markdown, and what is asked of all rows together. Before a row is
+//! timed, every answer and every buffer of the two is compared; a difference ends the program with status 1.
+//!
+//! `speed [PART]`: only the rows whose name contains PART, such as "code 2" or "mode 0, mixed, send".
 
+mod asked;
 mod grids;
 #[cfg(feature = "linux")]
 mod linux;
@@ -8,6 +11,7 @@ mod ours;
 mod rows;
 mod theirs;
 
+use asked::Timed;
 use rows::{Call, Memory, Row, GROUP, INPUTS};
 use std::hint::black_box;
 use std::process::exit;
@@ -20,10 +24,12 @@ const ROUNDS: usize = 60;
 const COLUMNS: &str = "| of | call | ours, ns | second, ns | ours / second |";
 
 fn main() {
+    let part = std::env::args().nth(1).unwrap_or_default();
     #[cfg(feature = "linux")]
-    if std::env::args().nth(1).as_deref() == Some("linux") {
+    if part == "linux" {
         return linux::print();
     }
+    let named = |row: &Row| row.whole().contains(&part);
     println!("- {INPUTS} calls a row, in groups of {GROUP}, the fastest of {ROUNDS} rounds for each group");
     println!(
         "- Payload B: {} OFDM symbols a row, in groups of {GROUP}, or of one call where it has more",
@@ -31,22 +37,25 @@ fn main() {
     );
     println!("- answers and buffers compared call by call; no buffer is cleared between calls\n");
     println!("{COLUMNS}\n|---|---|---|---|---|");
-    for row in rows::all() {
-        let (fast, other) = timed(&row);
-        println!("| {} | {} | {fast:.0} | {other:.0} | {:.2} |", row.of, row.name, fast / other);
-    }
-    println!("\n{COLUMNS} ours, ns a symbol | second, ns a symbol |\n|---|---|---|---|---|---|---|");
-    for (symbols, row) in grids::all() {
-        let (fast, other) = timed(&row);
-        print!("| {} | {} | {fast:.0} | {other:.0} | {:.2} |", row.of, row.name, fast / other);
-        println!(" {:.0} | {:.0} |", fast / symbols as f64, other / symbols as f64);
-    }
+    let mut all = table(rows::all().filter(named), Timed::line);
+    println!("\n- {}\n", asked::cable());
+    println!("{COLUMNS} ours, ns a symbol | second, ns a symbol | ours, symbols a second |");
+    println!("|---|---|---|---|---|---|---|---|");
+    all.extend(table(grids::all().filter(named), Timed::line_of_symbols));
+    println!();
+    asked::print(&all);
 }
 
-/// Compared first, and then timed.
-fn timed(row: &Row) -> (f64, f64) {
-    compare(row);
-    fastest(row)
+/// Each row compared first and then timed, and its line of the table.
+fn table(rows: impl Iterator<Item = Row>, line: fn(&Timed) -> String) -> Vec<Timed> {
+    let timed = rows.map(|row| {
+        compare(&row);
+        let [ours, second] = fastest(&row, [row.ours, row.theirs]);
+        let timed = Timed { row: Row { inputs: Vec::new(), ..row }, ours, second };
+        println!("{}", line(&timed));
+        timed
+    });
+    timed.collect()
 }
 
 /// The same number, place, counts, places mended and buffers for every input, and the answer that the row says, or the
@@ -57,23 +66,23 @@ fn compare(row: &Row) {
         let (a, b) = ((row.ours)(input, &mut memory), (row.theirs)(input, &mut other));
         let alike = memory == other;
         if a != b || !alike || row.told.as_ref().is_some_and(|told| a != *told) {
-            eprintln!("{}, {}, input {n}: ours {a:?}, second {b:?}, buffers alike: {alike}", row.of, row.name);
+            eprintln!("{}, input {n}: ours {a:?}, second {b:?}, buffers alike: {alike}", row.whole());
             exit(1);
         }
     }
 }
 
-/// Nanoseconds a call of each: rounds over all inputs, by turns ours and the other's; of each group of calls the fastest
-/// round counts, so that a pause of the machine does not.
-fn fastest(row: &Row) -> (f64, f64) {
-    let groups = row.inputs.len() / row.group;
-    let (mut least, mut other) = (vec![u128::MAX; groups], vec![u128::MAX; groups]);
+/// Nanoseconds a call of each: rounds over all inputs, the calls by turns; of each group of inputs the fastest round
+/// counts, so that a pause of the machine does not.
+fn fastest<const N: usize>(row: &Row, calls: [Call; N]) -> [f64; N] {
+    let mut least = calls.map(|_| vec![u128::MAX; row.inputs.len() / row.group]);
     let mut memory = Memory::new();
     for _ in 0..ROUNDS {
-        round(row, row.ours, &mut memory, &mut least);
-        round(row, row.theirs, &mut memory, &mut other);
+        for (call, least) in calls.into_iter().zip(&mut least) {
+            round(row, call, &mut memory, least);
+        }
     }
-    (mean(row, &least), mean(row, &other))
+    least.map(|groups| mean(row, &groups))
 }
 
 /// One round: the nanoseconds of each group, where they are less than before.

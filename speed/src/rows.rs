@@ -26,9 +26,11 @@ pub struct Input {
     pub scheme: Vec<u8>,
     pub i: Vec<i16>,
     pub q: Vec<i16>,
-    /// A word as Linux takes it.
+    /// A word as Linux takes it, and as decode_packed does.
     #[cfg(feature = "linux")]
     pub packed: Vec<u8>,
+    #[cfg(feature = "linux")]
+    pub words: [u64; 8],
 }
 
 /// What is lent: at the same place in its cache lines in every run.
@@ -64,6 +66,8 @@ pub type Call = fn(&Input, &mut Memory) -> Answer;
 pub struct Row {
     pub of: String,
     pub name: String,
+    /// OFDM symbols that a call sends or receives; 0 where it does neither.
+    pub symbols: usize,
     pub ours: Call,
     pub theirs: Call,
     pub inputs: Vec<Input>,
@@ -71,6 +75,13 @@ pub struct Row {
     pub group: usize,
     /// What every call must answer, where the row says so.
     pub told: Option<Answer>,
+}
+
+impl Row {
+    /// What the row is of, and its call.
+    pub fn whole(&self) -> String {
+        format!("{}, {}", self.of, self.name)
+    }
 }
 
 /// A call of ours and of second's.
@@ -95,7 +106,7 @@ pub fn decoding() -> impl Iterator<Item = Row> {
 
 fn row(of: &str, name: &str, (ours, theirs): Calls, mut input: impl FnMut() -> Input) -> Row {
     let inputs = (0..INPUTS).map(|_| input()).collect();
-    Row { of: of.to_string(), name: name.to_string(), ours, theirs, inputs, group: GROUP, told: None }
+    Row { of: of.to_string(), name: name.to_string(), symbols: 0, ours, theirs, inputs, group: GROUP, told: None }
 }
 
 /// All rows of one code.
@@ -127,7 +138,8 @@ fn of_code(number: u8) -> Vec<Row> {
 fn of_payload_a() -> Vec<Row> {
     let mut rng = Rng::new(4);
     let mut row = |mode: u8, name: &str, calls: Calls, input: &dyn Fn(&mut Rng, u8) -> Input| {
-        row(&format!("Payload A, mode {mode}"), name, calls, || input(&mut rng, mode))
+        let row = row(&format!("Payload A, mode {mode}"), name, calls, || input(&mut rng, mode));
+        Row { symbols: payload_a::SYMBOLS, ..row }
     };
     vec![
         row(1, "send", SEND_A, &frame),

@@ -2,7 +2,9 @@
 -- Assumes nothing.
 use mathlib.Core.Path.{_≡_, sym, ap, _∙_}
 use mathlib.Core.List.{List}
-use Prim.Native.Nat.{ℕ, _-_, _*_, _%_, _^_}
+use Prim.Native.Nat.{ℕ, _+_, _-_, _*_, _/_, _%_, _^_}
+use native.Mathlib.Omega.{arith}
+use lib.Pow.{shr-shr}
 use lib.Dec.{T, leb, eqb, leb→le, eqb→eq}
 use Rattle.bits.specs.Words.{digits}
 use Rattle.bch.specs.Registers.{tops, whole}
@@ -22,6 +24,12 @@ sound h rooted narrow short few bytes exact = record {
   bytes = eqb→eq (h .k % 8) 0 bytes;
   exact = eqb→eq (whole (h .generator)) (codeOf h .generator * 2 ^ (192 - (h .n - h .k))) exact;
 }
+
+-- at the top of 192 digits the generator has its highest digit behind the register
+pub degree-192 : {h : Held} → Sound h → whole (h .generator) / 2 ^ 192 ≡ 1
+degree-192 {h} sound =
+    let e : 192 ≡ 192 - (h .n - h .k) + (h .n - h .k) = omega (arith, sound .narrow) in
+    ap (λ (m : ℕ). whole (h .generator) / 2 ^ m) e ∙ sym (shr-shr (whole (h .generator)) (192 - (h .n - h .k)) (h .n - h .k)) ∙ sound .rooted .degree
 
 module _ {h : Held} (sound : Sound h) (m : List ℕ) where
   pub scaled : remainder 192 (whole (h .generator)) m ≡ remainder (h .n - h .k) (codeOf h .generator) m * 2 ^ (192 - (h .n - h .k))

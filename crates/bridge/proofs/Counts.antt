@@ -28,10 +28,11 @@ use Rattle.bch.specs.Promise.{Decodes, Decoding}
 use Rattle.bch.proofs.Once.{by-check}
 use Rattle.payload_a.specs.PromiseA.{wireA, ReceivingA}
 use Rattle.payload_a.proofs.TripsA.{sent-again, quality-a}
-use Rattle.payload_b.specs.CodedB.{blocksIn, bitsFor, sumOf}
+use Rattle.payload_b.specs.CodedB.{blocksIn, bitsFor}
+use Rattle.symbols.specs.Schemes.{sumOf}
 use Rattle.payload_b.specs.PromiseB.{mendsB, ReceivingB}
 use Rattle.payload_b.specs.PlanB.{Sendable}
-use Rattle.payload_b.proofs.Schemes.{sum-most}
+use Rattle.symbols.proofs.Schemes.{sum-most}
 use Rattle.payload_b.proofs.Plans.{symbols-hold}
 use Rattle.payload_b.proofs.TripsB.{up-sendable, quality-b}
 

@@ -1,18 +1,19 @@
 -- The first n bits of a packed word, as a word of a code: that there are n of them, what is left of them, and one of them flipped.
 -- Assumes nothing.
 use mathlib.Core.Path.{_≡_, sym, ap, ap₂, _∙_}
-use mathlib.Core.List.{List, _∷_, _++_}
-use Prim.Native.Nat.{ℕ, zero, suc, _+_, _-_, _/_, _^_, _≤_, _<_, min}
+use mathlib.Core.List.{List, _++_}
+use Prim.Native.Nat.{ℕ, _+_, _-_, _<_, min}
 use native.Mathlib.Omega.{arith}
 use lib.Bits.{bitXor}
-use lib.ListN.{length, take, drop, getD, set, replicate, length-drop, length-replicate, replicate-append-replicate}
-use lib.Seq.{length-take-le, take-take, take-append-add, drop-append-le, drop-at, take-set-lt, set-append-left, getD-take}
-use lib.Pow.{shr-shr}
+use lib.ListN.{length, take, drop, getD, set, replicate, length-drop}
+use lib.Seq.{length-take-le, take-take, take-append-add, drop-append-le, take-set-lt, set-append-left, getD-take}
 use Rattle.bits.specs.Words.{Bits}
 use Rattle.bits.specs.Remainders.{remainder}
 use Rattle.bits.proofs.Digits.{bits-take}
 use Rattle.packed.specs.Packed.{bits512}
 use Rattle.packed.proofs.Walks.{length-512, bits-512}
+use Rattle.packed.proofs.Paddings.{take-zeros, drop-zeros}
+use Rattle.bch.proofs.Sounds.{degree-192}
 use Rattle.remainders.specs.Taking.{leftoverBy}
 use Rattle.remainders.proofs.Windows.{at-top-zeros}
 use Rattle.remainders.proofs.Leftovers.{leftover-by}
@@ -26,17 +27,6 @@ use Rattle.decoder.proofs.Attempts.{Neighbour, neighbour}
 
 abbrev zeros : ℕ → List ℕ
 zeros n = replicate n 0
-
-drop-zeros : (n m : ℕ) → n ≤ m → drop n (zeros m) ≡ zeros (m - n)
-drop-zeros n m h =
-    let s : m ≡ n + (m - n) = omega arith in
-    ap (λ (k : ℕ). drop n (zeros k)) s ∙ ap (drop n) (sym (replicate-append-replicate n (m - n) 0))
-    ∙ drop-at (zeros n) (zeros (m - n)) n (length-replicate n 0)
-
-take-zeros : (n m : ℕ) → take n (zeros m) ≡ zeros (min n m)
-take-zeros zero m = let s : min 0 m ≡ 0 = omega arith in rw s
-take-zeros (suc n) zero = let s : min (suc n) 0 ≡ 0 = omega arith in rw s
-take-zeros (suc n) (suc m) = let s : min (suc n) (suc m) ≡ suc (min n m) = omega arith in rw s (ap (λ (l : List ℕ). 0 ∷ l) (take-zeros n m))
 
 -- ---- the first n bits
 
@@ -59,7 +49,7 @@ module _ {h : Held} (sound : Sound h) (words : List ℕ) (clear : Clear h words)
 
   -- what stands packed: the word, and the rest of 512 zeros
   pub written : bits512 words ≡ wordOf h words ++ drop (h .n) (zeros 512)
-  written = as-zeros ∙ ap (λ (l : List ℕ). wordOf h words ++ l) (sym (drop-zeros (h .n) 512 (omega (arith, sound .short))))
+  written = as-zeros ∙ ap (λ (l : List ℕ). wordOf h words ++ l) (sym (drop-zeros (h .n) 512))
 
   -- ---- what is left
 
@@ -108,11 +98,6 @@ module _ {h : Held} (sound : Sound h) (words : List ℕ) (clear : Clear h words)
     neighbour-flipped = rw word-flipped (neighbour (wordOf h words) p (word-bits sound words) (omega (arith, word-long sound words)))
 
 -- ---- what the table gives
-
-degree-192 : {h : Held} → Sound h → whole (h .generator) / 2 ^ 192 ≡ 1
-degree-192 {h} sound =
-    let e : 192 ≡ 192 - (h .n - h .k) + (h .n - h .k) = omega (arith, sound .narrow) in
-    ap (λ (m : ℕ). whole (h .generator) / 2 ^ m) e ∙ sym (shr-shr (whole (h .generator)) (192 - (h .n - h .k)) (h .n - h .k)) ∙ sound .rooted .degree
 
 -- it is what is left of the word
 pub left-by : {h : Held} {table : List ℕ} → Ready h table → (words : List ℕ) → Clear h words → leftoverBy table (h .k) words ≡ leftover h (wordOf h words)

@@ -11,7 +11,7 @@ use Rattle.payload.specs.Scrambler.{formed, shifted, scrambledFrom, scrambled}
 use Rattle.payload_a.specs.Check.{checkOf}
 use Rattle.payload_a.specs.Segments.{symbolOf, framed}
 use Rattle.payload_a.specs.CodedA.{pointsA}
-use Rattle.payload_b.specs.CodedB.{sumOf}
+use Rattle.symbols.specs.Schemes.{sumOf}
 use Rattle.numbers.specs.Table.{table, Agrees}
 
 pub claim : Agrees table

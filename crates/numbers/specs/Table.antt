@@ -15,7 +15,8 @@ use Rattle.points.specs.declared.Point.the-variants.{At}
 use Rattle.payload.specs.Scrambler.{scrambled}
 use Rattle.payload_a.specs.Check.{checkOf}
 use Rattle.payload_a.specs.CodedA.{pointsA}
-use Rattle.payload_b.specs.CodedB.{sumOf, bitsFor, symbolsFor}
+use Rattle.payload_b.specs.CodedB.{bitsFor, symbolsFor}
+use Rattle.symbols.specs.Schemes.{sumOf}
 
 pub record Row : Type 1 where
   pub Value : Type 0

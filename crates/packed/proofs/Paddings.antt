@@ -4,7 +4,7 @@ use mathlib.Core.Path.{_≡_, refl, sym, ap, ap₂, _∙_}
 use mathlib.Core.List.{List, [], _∷_, _++_, append-nil}
 use Prim.Native.Nat.{ℕ, zero, suc, _+_, _-_, _*_, _/_, _%_, _^_, _≤_, _<_, min}
 use native.Mathlib.Omega.{arith}
-use lib.ListN.{length, getD, take, drop, replicate, length-append, length-drop, length-replicate, length-take}
+use lib.ListN.{length, getD, take, drop, replicate, length-append, length-drop, length-replicate, length-take, drop-of-length-le}
 use lib.Seq.{take-nil, drop-nil, take-all, take-at, take-take}
 use Rattle.bits.specs.Words.{digits}
 use Rattle.bits.proofs.Digits.{length-digits}
@@ -15,7 +15,12 @@ use Rattle.packed.proofs.Walks.{length-512, word-at}
 abbrev zeros : ℕ → List ℕ
 zeros k = replicate k 0
 
-drop-zeros : (i k : ℕ) → drop i (zeros k) ≡ zeros (k - i)
+pub zeros-at : (n i : ℕ) → _≡_ {A = ℕ} (getD (zeros n) i 0) 0
+zeros-at zero i = refl
+zeros-at (suc n) zero = refl
+zeros-at (suc n) (suc i) = zeros-at n i
+
+pub drop-zeros : (i k : ℕ) → drop i (zeros k) ≡ zeros (k - i)
 drop-zeros zero k = let e : k ≡ k - 0 = omega arith in ap zeros e
 drop-zeros (suc i) zero = let e : 0 ≡ 0 - suc i = omega arith in ap zeros e
 drop-zeros (suc i) (suc k) = let e : k - i ≡ suc k - suc i = omega arith in drop-zeros i k ∙ ap zeros e
@@ -27,14 +32,14 @@ drop-padded zero k (b ∷ word) = let e : k ≡ k - (0 - suc (length word)) = om
 drop-padded (suc i) k (b ∷ word) =
     let e : k - (i - length word) ≡ k - (suc i - suc (length word)) = omega arith in drop-padded i k word ∙ ap (λ (n : ℕ). drop i word ++ zeros n) e
 
-take-zeros : (m k : ℕ) → m ≤ k → take m (zeros k) ≡ zeros m
-take-zeros zero k h = refl
-take-zeros (suc m) zero h = absurd (omega arith)
-take-zeros (suc m) (suc k) h = ap (λ (l : List ℕ). 0 ∷ l) (take-zeros m k (omega arith))
+pub take-zeros : (n m : ℕ) → take n (zeros m) ≡ zeros (min n m)
+take-zeros zero m = let s : min 0 m ≡ 0 = omega arith in rw s
+take-zeros (suc n) zero = let s : min (suc n) 0 ≡ 0 = omega arith in rw s
+take-zeros (suc n) (suc m) = let s : min (suc n) (suc m) ≡ suc (min n m) = omega arith in rw s (ap (λ (l : List ℕ). 0 ∷ l) (take-zeros n m))
 
 take-padded : (m k : ℕ) (word : List ℕ) → m ≤ length word + k → take m (word ++ zeros k) ≡ take m word ++ zeros (m - length word)
 take-padded m k [] h =
-    let e : m ≡ m - 0 = omega arith in take-zeros m k (omega arith) ∙ ap zeros e ∙ ap (λ (l : List ℕ). l ++ zeros (m - 0)) (sym (take-nil m))
+    let e : min m k ≡ m - 0 = omega arith in take-zeros m k ∙ ap zeros e ∙ ap (λ (l : List ℕ). l ++ zeros (m - 0)) (sym (take-nil m))
 take-padded zero k (b ∷ word) h = let e : 0 ≡ 0 - suc (length word) = omega arith in ap zeros e
 take-padded (suc m) k (b ∷ word) h =
     let e : m - length word ≡ suc m - suc (length word) = omega arith in
@@ -49,6 +54,13 @@ padded-part word i h room =
     ap (take 64) (drop-padded i k word)
     ∙ take-padded 64 (k - (i - length word)) (drop i word) (omega arith)
     ∙ ap (λ (n : ℕ). take 64 (drop i word) ++ zeros (64 - n)) rest
+
+-- behind a word there are zeros
+pub padded-behind : (word : List ℕ) (i : ℕ) → length word ≤ i → drop i (padded word) ≡ replicate (512 - i) 0
+padded-behind word i h =
+    let k = 512 - length word in
+    let e : k - (i - length word) ≡ 512 - i = omega arith in
+    drop-padded i k word ∙ ap₂ (λ (l : List ℕ) (n : ℕ). l ++ zeros n) (drop-of-length-le word {i = i} h) e
 
 pub length-padded : (word : List ℕ) → length word ≤ 512 → length (padded word) ≡ 512
 length-padded word h =
@@ -76,7 +88,7 @@ module _ (x m : ℕ) where
       = ap (λ (n : ℕ). take m (digits n x)) (sym e) ∙ ap (take m) (digits-append m k x) ∙ take-at (digits m y) (digits k x) m (length-digits m y) in
       digits-shl m k y e ∙ ap (λ (l : List ℕ). l ++ zeros k) (sym kept)
 
-drop-take : (i n : ℕ) (l : List ℕ) → drop i (take n l) ≡ take (n - i) (drop i l)
+pub drop-take : (i n : ℕ) (l : List ℕ) → drop i (take n l) ≡ take (n - i) (drop i l)
 drop-take zero n l = let e : n ≡ n - 0 = omega arith in ap (λ (m : ℕ). take m l) e
 drop-take (suc i) zero l = let e : 0 ≡ 0 - suc i = omega arith in ap (λ (m : ℕ). take m (drop (suc i) l)) e
 drop-take (suc i) (suc n) [] = sym (take-nil (suc n - suc i))

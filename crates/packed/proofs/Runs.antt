@@ -38,7 +38,7 @@ module _ (l : List ℕ) (i : ℕ) (h : i + 7 < length l) where
 
   pub eight-loaded : (a b c d e f g k : ℕ) → a ≡ getD l i 0 → b ≡ getD l (i + 1) 0 → c ≡ getD l (i + 2) 0 → d ≡ getD l (i + 3) 0
       → e ≡ getD l (i + 4) 0 → f ≡ getD l (i + 5) 0 → g ≡ getD l (i + 6) 0 → k ≡ getD l (i + 7) 0
-      → beside (a ∷ b ∷ c ∷ d ∷ e ∷ f ∷ g ∷ k ∷ []) ≡ beside (take 8 (drop i l))
+      → a ∷ b ∷ c ∷ d ∷ e ∷ f ∷ g ∷ k ∷ [] ≡ take 8 (drop i l)
   eight-loaded a b c d e f g k ea eb ec ed ee ef eg ek = rw (eight-from, ea, eb, ec, ed, ee, ef, eg, ek)
 
 lowest-take : (n : ℕ) (w : List ℕ) → lowest (take n w) ≡ take n (lowest w)

@@ -1,16 +1,18 @@
--- Elements side by side in a number: their lowest digits alone, and these brought together.
+-- Elements side by side in a number: all their digits, their lowest digits alone, and these brought together.
 -- Assumes nothing.
-use mathlib.Core.Path.{_≡_, refl, sym, ap, _∙_}
-use mathlib.Core.List.{List, [], _∷_}
-use Prim.Native.Nat.{ℕ, _+_, _*_, _/_, _%_, _^_, _≤_, _<_}
+use mathlib.Core.Path.{_≡_, refl, sym, ap, ap₂, _∙_}
+use mathlib.Core.List.{List, [], _∷_, _++_, append-nil, append-assoc}
+use Prim.Native.Nat.{ℕ, suc, _+_, _*_, _/_, _%_, _^_, _≤_, _<_}
 use native.Mathlib.Omega.{arith}
+use native.Mathlib.Nat.{le-refl}
 use lib.Bits.{bitAnd, bitOr, and-block, and-mask, or-shifted}
 use lib.Dec.{lit<, lit≤}
 use lib.ListN.{length, replicate}
-use lib.Pow.{pow-add, shl-lt, shl-exact}
+use lib.Pow.{pow-add, shl-lt, shl-exact, high, low}
 use Rattle.ground.proofs.Tests.{all-equal}
 use Rattle.bits.specs.Words.{digits, lowest}
-use Rattle.bits.specs.Bytes.{Bytes}
+use Rattle.bits.specs.Bytes.{Bytes, bitsOf}
+use Rattle.bits.proofs.Shifts.{digits-mod-pow, digits-append}
 use Rattle.packed.specs.Sides.{besideFrom, beside}
 
 -- ---- eight elements moved to their places
@@ -44,6 +46,26 @@ eight-moved a b c d e f g k ha hb hc hd he hf hg hk =
     let ef = ap (λ (n : ℕ). bitOr n (f * 2 ^ 16 % 2 ^ 64)) ee ∙ or-next 16 qe f (lit≤ tt) hf in
     let eg = ap (λ (n : ℕ). bitOr n (g * 2 ^ 8 % 2 ^ 64)) ef ∙ or-next 8 qf g (lit≤ tt) hg in
     ap (λ (n : ℕ). bitOr n k) eg ∙ or-shifted qg 8 k hk
+
+-- ---- all their digits
+
+one-beside : (m a x : ℕ) → x < 256 → digits (m + 8) (a * 256 + x) ≡ digits m a ++ digits 8 x
+one-beside m a x h =
+    digits-append m 8 (a * 256 + x)
+    ∙ ap₂ (λ (n : ℕ) (v : List ℕ). digits m n ++ v) (high a 8 h) (sym (digits-mod-pow 8 8 (a * 256 + x) (le-refl 8)) ∙ ap (digits 8) (low a 8 h))
+
+beside-from : (xs : List ℕ) (m a : ℕ) → Bytes xs → digits (m + 8 * length xs) (besideFrom a xs) ≡ digits m a ++ bitsOf xs
+unfolding besideFrom bitsOf
+beside-from [] m a h = let e : m + 8 * 0 ≡ m = omega arith in ap (λ (n : ℕ). digits n a) e ∙ sym (append-nil (digits m a))
+beside-from (x ∷ xs) m a h =
+    let b = a * 256 + x in
+    let e : m + 8 * suc (length xs) ≡ m + 8 + 8 * length xs = omega arith in
+    ap (λ (n : ℕ). digits n (besideFrom b xs)) e ∙ beside-from xs (m + 8) b (h .1)
+    ∙ ap (λ (v : List ℕ). v ++ bitsOf xs) (one-beside m a x (h .0)) ∙ append-assoc (digits m a) (digits 8 x) (bitsOf xs)
+
+pub beside-digits : (xs : List ℕ) → length xs ≡ 8 → Bytes xs → digits 64 (beside xs) ≡ bitsOf xs
+unfolding digits
+beside-digits xs long h = let e : 64 ≡ 0 + 8 * length xs = omega arith in ap (λ (n : ℕ). digits n (beside xs)) e ∙ beside-from xs 0 0 h
 
 -- ---- the lowest digit of each
 

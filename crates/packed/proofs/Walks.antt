@@ -1,13 +1,13 @@
--- The bits of machine words, one after the other: their number, one machine word more, one changed, and the bit at a place.
+-- The bits of machine words, one after the other: their number, one machine word more, one changed, some digits of one, and the bit at a place.
 -- Assumes nothing.
 use mathlib.Core.Path.{_≡_, refl, sym, ap, ap₂, _∙_}
 use mathlib.Core.List.{List, [], _++_, append-assoc, append-nil}
 use mathlib.Core.Logic.{_≢_}
 use Prim.Native.Nat.{ℕ, zero, suc, _+_, _-_, _*_, _/_, _%_, _^_, _≤_, _<_}
 use native.Mathlib.Omega.{arith}
-use native.Mathlib.Nat.{add-zero, zero-add}
-use lib.ListN.{length, getD, set, take, drop, length-append, List·getD-append}
-use lib.Seq.{getD-set-same, getD-set-other, getD-append-add, take-at, drop-at}
+use native.Mathlib.Nat.{add-zero, zero-add, le-refl}
+use lib.ListN.{length, getD, set, take, drop, length-append, length-drop, List·getD-append}
+use lib.Seq.{getD-set-same, getD-set-other, getD-append-add, take-at, drop-at, take-all, drop-drop, take-append-le, drop-append-le}
 use Rattle.bits.specs.Words.{Bits, digits}
 use Rattle.bits.proofs.Digits.{length-digits, digits-bits, bits-append}
 use Rattle.packed.specs.Packed.{bitsFrom, bits512}
@@ -61,6 +61,55 @@ from-set-before (suc n) i k x ws h =
     let ne : i ≢ k = λ (e : i ≡ k). omega arith in
     ap₂ (λ (a : ℕ) (v : List ℕ). digits 64 a ++ v) (getD-set-other ws k i x 0 ne) (from-set-before n (suc i) k x ws (omega arith))
 
+-- the same from a machine word on
+pub from-same : (n i : ℕ) (v w : List ℕ) → ((k : ℕ) → i ≤ k → getD v k 0 ≡ getD w k 0) → bitsFrom n i v ≡ bitsFrom n i w
+unfolding bitsFrom
+from-same zero i v w h = refl
+from-same (suc n) i v w h =
+    ap₂ (λ (a : ℕ) (l : List ℕ). digits 64 a ++ l) (h i (le-refl i)) (from-same n (suc i) v w (λ k l. h k (omega arith)))
+
+-- ---- those of n machine words before, at and behind the machine word i
+
+module _ (ws : List ℕ) (n i : ℕ) where
+  pub split-from : i ≤ n → bitsFrom n 0 ws ≡ bitsFrom i 0 ws ++ bitsFrom (n - i) i ws
+  split-from h =
+      let e : n ≡ i + (n - i) = omega arith in
+      ap (λ (m : ℕ). bitsFrom m 0 ws) e ∙ from-append i (n - i) 0 ws ∙ ap (λ (j : ℕ). bitsFrom i 0 ws ++ bitsFrom (n - i) j ws) (zero-add i)
+
+  pub take-from : i ≤ n → take (64 * i) (bitsFrom n 0 ws) ≡ bitsFrom i 0 ws
+  take-from h = ap (take (64 * i)) (split-from h) ∙ take-at (bitsFrom i 0 ws) (bitsFrom (n - i) i ws) (64 * i) (length-from i 0 ws)
+
+  pub drop-from : i ≤ n → drop (64 * i) (bitsFrom n 0 ws) ≡ bitsFrom (n - i) i ws
+  drop-from h = ap (drop (64 * i)) (split-from h) ∙ drop-at (bitsFrom i 0 ws) (bitsFrom (n - i) i ws) (64 * i) (length-from i 0 ws)
+
+  -- k of its digits, from the place p on
+  pub part-from : (p k : ℕ) → i < n → p + k ≤ 64 → take k (drop (64 * i + p) (bitsFrom n 0 ws)) ≡ take k (drop p (digits 64 (getD ws i 0)))
+  unfolding bitsFrom
+  part-from p k h room =
+      let here = digits 64 (getD ws i 0) in
+      let rest = bitsFrom (n - suc i) (suc i) ws in
+      let e : n - i ≡ suc (n - suc i) = omega arith in
+      let long : length here ≡ 64 = length-digits 64 (getD ws i 0) in
+      ap (take k) (sym (drop-drop p (64 * i) (bitsFrom n 0 ws))
+      ∙ ap (drop p) (drop-from (omega arith) ∙ ap (λ (m : ℕ). bitsFrom m i ws) e)
+      ∙ drop-append-le p here rest (omega arith))
+      ∙ take-append-le k (drop p here) rest (simp length-drop (omega arith))
+
+  -- its first k
+  pub first-from : (k : ℕ) → i < n → k ≤ 64 → take k (drop (64 * i) (bitsFrom n 0 ws)) ≡ take k (digits 64 (getD ws i 0))
+  first-from k h room = ap (λ (m : ℕ). take k (drop m (bitsFrom n 0 ws))) (sym (add-zero (64 * i))) ∙ part-from 0 k h (omega arith)
+
+  pub word-from : i < n → take 64 (drop (64 * i) (bitsFrom n 0 ws)) ≡ digits 64 (getD ws i 0)
+  word-from h =
+      let here = digits 64 (getD ws i 0) in
+      first-from 64 h (le-refl 64) ∙ take-all 64 here (omega (arith, length-digits 64 (getD ws i 0)))
+
+  -- all behind its first p
+  pub last-from : (p k : ℕ) → i < n → p + k ≡ 64 → take k (drop (64 * i + p) (bitsFrom n 0 ws)) ≡ drop p (digits 64 (getD ws i 0))
+  last-from p k h room =
+      let here = digits 64 (getD ws i 0) in
+      part-from p k h (omega arith) ∙ take-all k (drop p here) (omega (arith, length-drop p here, length-digits 64 (getD ws i 0)))
+
 -- ---- the bits of eight
 
 pub length-512 : (ws : List ℕ) → length (bits512 ws) ≡ 512
@@ -75,9 +124,8 @@ bits-512 ws = bits-of-from 8 0 ws
 pub around : (ws : List ℕ) (a : ℕ) → a < 8 → bits512 ws ≡ bitsFrom a 0 ws ++ (digits 64 (getD ws a 0) ++ bitsFrom (7 - a) (suc a) ws)
 unfolding bits512 bitsFrom
 around ws a h =
-    let e : 8 ≡ a + suc (7 - a) = omega arith in
-    ap (λ (n : ℕ). bitsFrom n 0 ws) e ∙ from-append a (suc (7 - a)) 0 ws
-    ∙ ap (λ (i : ℕ). bitsFrom a 0 ws ++ bitsFrom (suc (7 - a)) i ws) (zero-add a)
+    let e : 8 - a ≡ suc (7 - a) = omega arith in
+    split-from ws 8 a (omega arith) ∙ ap (λ (n : ℕ). bitsFrom a 0 ws ++ bitsFrom n a ws) e
 
 -- a place: so many machine words, and a digit of the next
 pub place : (ws : List ℕ) (p : ℕ) → p ≡ length (bitsFrom (p / 64) 0 ws) + p % 64
@@ -100,12 +148,8 @@ bit-at ws p h =
 
 -- the bits of the machine word a
 pub word-at : (ws : List ℕ) (a : ℕ) → a < 8 → take 64 (drop (64 * a) (bits512 ws)) ≡ digits 64 (getD ws a 0)
-word-at ws a h =
-    let x = getD ws a 0 in
-    let back = bitsFrom (7 - a) (suc a) ws in
-    ap (λ (l : List ℕ). take 64 (drop (64 * a) l)) (around ws a h)
-    ∙ ap (take 64) (drop-at (bitsFrom a 0 ws) (digits 64 x ++ back) (64 * a) (length-from a 0 ws))
-    ∙ take-at (digits 64 x) back 64 (length-digits 64 x)
+unfolding bits512
+word-at ws a h = word-from ws 8 a h
 
 -- it changed
 pub around-set : (ws : List ℕ) (a x : ℕ) → length ws ≡ 8 → a < 8

@@ -14,6 +14,9 @@ bitsFrom (suc n) i words = digits 64 (getD words i 0) ++ bitsFrom n (suc i) word
 unfoldable pub bits512 : List ℕ → List ℕ
 bits512 words = bitsFrom 8 0 words
 
--- a word of at most 512 bits stands first, with zeros behind
+-- a word stands first, with zeros behind it up to so many bits; up to 512
+abbrev pub paddedTo : ℕ → List ℕ → List ℕ
+paddedTo n word = word ++ replicate (n - length word) 0
+
 abbrev pub padded : List ℕ → List ℕ
-padded word = word ++ replicate (512 - length word) 0
+padded word = paddedTo 512 word

@@ -1,13 +1,18 @@
 // Words packed: bits in machine words, 64 binary digits in each, the highest first. Eight machine words hold 512 bits; a shorter word stands first, with
-// zeros behind.
+// zeros behind. A run of 41 holds bits on their way between words and OFDM symbols.
 ghost use mathlib.Core.Path.{_≡_};
+ghost use mathlib.Core.Bool.{cond};
 ghost use mathlib.Core.List.{_++_, zipWith};
-ghost use Prim.Native.Nat.{ℕ, _+_, _-_, _*_, _%_, _<_, _≤_};
+ghost use Prim.Native.Nat.{ℕ, _+_, _-_, _*_, _/_, _%_, _<_, _≤_, min};
 ghost use lib.Bits.{bitXor};
+ghost use lib.Dec.{leb};
 ghost use lib.ListN.{length, take, drop, getD, set, replicate};
 ghost use Rattle.bits.specs.Words.{lowest, digits};
-ghost use Rattle.packed.specs.Packed.{bits512, padded};
+ghost use Rattle.packed.specs.Packed.{bitsFrom, bits512, padded};
 ghost use Rattle.packed.specs.Sides.{beside};
+
+// The machine words of a run: 512 bits, and behind them those of an OFDM symbol, 2,100 at most.
+pub const RUN: usize = 41;
 
 // A word packed, the first 512 of its elements; an element counts as its lowest binary digit.
 pub fn pack(word: &[u8]) -> [u64; 8]
@@ -67,6 +72,124 @@ pub fn first(words: &[u64; 8], n: usize) -> [u64; 8]
         w += 1;
     }
     out
+}
+
+// 512 bits of machine words, from the place `at` on; behind the last machine word there are zeros.
+pub fn window(words: &[u64], at: usize) -> [u64; 8]
+    ensures { λ r. ⌜ bits512 r ≡ take 512 (drop at (bitsFrom (at / 64 + 9) 0 (now (words .entry)))) ⌝ }
+{
+    let i = at / 64;
+    let p = at % 64;
+    let mut out = [0u64; 8];
+    let mut w: usize = 0;
+    while w < 8 {
+        out[w] = across(word_at(words, i + w), word_at(words, i + w + 1), p);
+        w += 1;
+    }
+    out
+}
+
+// A run that begins with 512 bits; behind them there are zeros.
+pub fn begun(front: [u64; 8]) -> [u64; RUN]
+    ensures { λ r. ⌜ bitsFrom 41 0 r ≡ bits512 front ++ replicate 2112 0 ⌝ }
+{
+    let mut out = [0u64; RUN];
+    let mut w: usize = 0;
+    while w < 8 {
+        out[w] = front[w];
+        w += 1;
+    }
+    out
+}
+
+// 512 bits written into a run, from the place `at` on, where there is room for them.
+pub fn put(run: [u64; RUN], bits: [u64; 8], at: usize) -> [u64; RUN]
+    ensures { λ r. ⌜ bitsFrom 41 0 r ≡ cond (leb at 2112) (take at (bitsFrom 41 0 run) ++ (bits512 bits ++ drop (at + 512) (bitsFrom 41 0 run))) (bitsFrom 41 0 run) ⌝ }
+{
+    if 2112 < at {
+        return run;
+    }
+    let i = at / 64;
+    let p = at % 64;
+    let mut out = run;
+    let mut before = above(out[i], p);
+    let mut w: usize = 0;
+    while w < 8 {
+        out[i + w] = below(before, bits[w], p);
+        before = bits[w];
+        w += 1;
+    }
+    if p != 0 {
+        out[i + 8] = below(before, out[i + 8] << p, p);
+    }
+    out
+}
+
+// The bits k places further behind, and zeros before them; those that would stand behind 512 fall out.
+pub fn down(words: &[u64; 8], k: usize) -> [u64; 8]
+    ensures { λ r. ⌜ bits512 r ≡ take 512 (replicate k 0 ++ bits512 (now (words .entry))) ⌝ }
+{
+    let mut out = [0u64; 8];
+    if 511 < k {
+        return out;
+    }
+    let i = k / 64;
+    let p = k % 64;
+    let mut high: u64 = 0;
+    let mut w: usize = i;
+    while w < 8 {
+        let low = words[w - i];
+        out[w] = below(high, low, p);
+        high = low;
+        w += 1;
+    }
+    out
+}
+
+// The p highest digits of x, at the low end.
+fn above(x: u64, p: usize) -> u64
+    requires { ⌜ p < 64 ⌝ }
+    ensures { λ r. ⌜ drop (64 - p) (digits 64 r) ≡ take p (digits 64 x) ⌝ }
+{
+    if p == 0 { 0 } else { x >> (64 - p) }
+}
+
+// The p lowest digits of high, and behind them the highest of low.
+fn below(high: u64, low: u64, p: usize) -> u64
+    requires { ⌜ p < 64 ⌝ }
+    ensures { λ r. ⌜ digits 64 r ≡ drop (64 - p) (digits 64 high) ++ take (64 - p) (digits 64 low) ⌝ }
+{
+    if p == 0 {
+        low
+    } else {
+        high << (64 - p) | low >> p
+    }
+}
+
+// The machine word i, 0 behind the last.
+pub fn word_at(words: &[u64], i: usize) -> u64
+    ensures { λ r. ⌜ r ≡ getD (now (words .entry)) i 0 ⌝ }
+{
+    if i < words.len() { words[i] } else { 0 }
+}
+
+// The digits of high from the place p on, and behind them the p highest of low; p counts round 64.
+pub fn across(high: u64, low: u64, p: usize) -> u64
+    ensures { λ r. ⌜ digits 64 r ≡ drop (p % 64) (digits 64 high) ++ take (p % 64) (digits 64 low) ⌝ }
+{
+    let k = p % 64;
+    if k == 0 {
+        high
+    } else {
+        high << k | low >> (64 - k)
+    }
+}
+
+// The lesser of i and j.
+pub fn least(i: usize, j: usize) -> usize
+    ensures { λ r. ⌜ (r ≡ min i j) × (r ≤ j) ⌝ }
+{
+    if i < j { i } else { j }
 }
 
 // Of the digits of x, which stand at the places from `from` on, those before the place n.

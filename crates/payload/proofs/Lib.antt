@@ -1,4 +1,8 @@
 -- The laws of the crate.
 pub mod LineQuality
 pub mod Scrambling
+pub mod Forming
+pub mod Writing
+pub mod Packing
+pub mod Once
 pub mod Wires

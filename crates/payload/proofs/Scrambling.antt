@@ -1,4 +1,4 @@
--- Scrambled words: as long as the words, bits where those are, joined where those are joined, and the words back when scrambled again; the register;
+-- Scrambled words: as long as the words, bits where those are, joined and parted where those are, and the words back when scrambled again; the register;
 -- and bits scrambled where they stand, at the front of a list.
 -- Assumes nothing.
 use mathlib.Core.Path.{_≡_, refl, sym, ap, _∙_}
@@ -8,7 +8,7 @@ use native.Mathlib.Nat.{zero-add, mod-lt}
 use native.Mathlib.Omega.{arith}
 use lib.Bits.{xor-lt}
 use lib.Dec.{lit<}
-use lib.ListN.{length, take, length-append}
+use lib.ListN.{length, take, drop, length-append}
 use lib.Seq.{take-at, length-take-le}
 use Rattle.bits.specs.Words.{Bits}
 use Rattle.ground.proofs.Xors.{xor-cancel}
@@ -41,6 +41,19 @@ pub scrambled-append : (r : ℕ) (a b : List ℕ) → scrambledFrom r (a ++ b) �
 unfolding scrambledFrom registerAfter
 scrambled-append r [] b = refl
 scrambled-append r (x ∷ a) b = rw (scrambled-append (shifted r) a b)
+
+-- part of them scrambled
+pub scrambled-take : (n r : ℕ) (bs : List ℕ) → take n (scrambledFrom r bs) ≡ scrambledFrom r (take n bs)
+unfolding scrambledFrom
+scrambled-take zero r bs = refl
+scrambled-take (suc n) r [] = refl
+scrambled-take (suc n) r (b ∷ bs) = rw (scrambled-take n (shifted r) bs)
+
+pub scrambled-drop : (n r : ℕ) (bs : List ℕ) → drop n (scrambledFrom r bs) ≡ scrambledFrom (registerAfter n r) (drop n bs)
+unfolding scrambledFrom registerAfter
+scrambled-drop zero r bs = refl
+scrambled-drop (suc n) r [] = refl
+scrambled-drop (suc n) r (b ∷ bs) = scrambled-drop n (shifted r) bs
 
 -- the register after some bits and then more
 pub register-more : (m n r : ℕ) → registerAfter (m + n) r ≡ registerAfter n (registerAfter m r)

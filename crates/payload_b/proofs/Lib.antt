@@ -1,6 +1,4 @@
 -- The laws of the crate, in the order in which they rest on each other.
-pub mod Schemes
-pub mod Mapping
 pub mod Plans
 pub mod Blocks
 pub mod Blockwise

@@ -19,14 +19,15 @@ use Rattle.answers.proofs.Telling.{refusalOf, refusal-of, because-is, written-s
 use Rattle.symbols.specs.Grids.{received}
 use Rattle.payload.specs.Wire.{Fits, FirstHopeless}
 use Rattle.payload.proofs.Wires.{fits-hopeless, one-hopeless}
-use Rattle.payload_b.specs.CodedB.{blockBytes, codeB, blocksIn, bitsFor, symbolsFor, repeated, labelled}
-use Rattle.payload_b.specs.PromiseB.{badEntry, planned, SendsB, SendingB, sendCheckedB, gridChecked, bitsReceived, wireB, ReceivesB, ReceivingB}
+use Rattle.payload_b.specs.CodedB.{blockBytes, codeB, blocksIn, bitsFor, symbolsFor}
+use Rattle.symbols.specs.Schemes.{repeated, labelled, badEntry}
+use Rattle.payload_b.specs.PromiseB.{planned, SendsB, SendingB, sendCheckedB, gridChecked, bitsReceived, wireB, ReceivesB, ReceivingB}
 use Rattle.payload_b.specs.PlanB.{Sendable, planOf, Judged}
 use Rattle.payload_b.specs.declared.plan.Plan.{Plan}
 use Rattle.payload_b.specs.declared.plan.Verdict.{Verdict}
 use Rattle.payload_b.specs.declared.plan.Verdict.the-variants.{Passes, Fails}
-use Rattle.payload_b.proofs.Schemes.{bad-most}
-use Rattle.payload_b.proofs.Mapping.{length-symbols}
+use Rattle.symbols.proofs.Schemes.{bad-most}
+use Rattle.symbols.proofs.Mapping.{length-symbols}
 use Rattle.payload_b.proofs.Plans.{plan-passes, symbols-hold}
 use Rattle.payload_b.proofs.Blocks.{coded}
 use Rattle.payload_b.proofs.Blockwise.{codeword-b}

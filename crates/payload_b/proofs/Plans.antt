@@ -10,11 +10,12 @@ use native.Mathlib.Omega.{arith}
 use borrow.Author.Tests.{le-leb, lt-leb, lt-ltb, le-ltb, eq-eqb, ne-eqb}
 use lib.Dec.{ltb}
 use lib.ListN.{length}
-use Rattle.payload_b.specs.CodedB.{blockBytes, blocksIn, bitsFor, sumOf, symbolsFor}
+use Rattle.payload_b.specs.CodedB.{blockBytes, blocksIn, bitsFor, symbolsFor}
+use Rattle.symbols.specs.Schemes.{sumOf, badEntry}
 use Rattle.answers.specs.Checks.{Checked, fails}
-use Rattle.payload_b.specs.PromiseB.{badEntry, planned}
+use Rattle.payload_b.specs.PromiseB.{planned}
 use Rattle.payload_b.specs.PlanB.{Sendable}
-use Rattle.payload_b.proofs.Schemes.{sum-least}
+use Rattle.symbols.proofs.Schemes.{sum-least}
 
 -- ---- whole blocks and whole OFDM symbols
 

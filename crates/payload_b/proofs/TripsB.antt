@@ -33,11 +33,12 @@ use Rattle.symbols.proofs.Placings.{length-placed, placed-occupied, received-pl
 use Rattle.payload.specs.Wire.{countAt, worstOf, total, worst}
 use Rattle.payload.proofs.Wires.{fits-clean}
 use Rattle.payload.proofs.LineQuality.{Quality, quality, quality-told, none-mended, worst-self}
-use Rattle.payload_b.specs.CodedB.{blockBits, blocksIn, bitsFor, codedB, sumOf, symbolsFor, repeated, mapped, filledUp, pointsB, sentB, labelled}
-use Rattle.payload_b.specs.PromiseB.{SendsB, SendingB, strayIn, gridChecked, bitsReceived, mendsB, wireB, GoesB, ReceivesB, ReceivingB}
+use Rattle.payload_b.specs.CodedB.{blockBits, blocksIn, bitsFor, codedB, symbolsFor, filledUp, pointsB, sentB}
+use Rattle.symbols.specs.Schemes.{sumOf, repeated, mapped, labelled, strayIn}
+use Rattle.payload_b.specs.PromiseB.{SendsB, SendingB, gridChecked, bitsReceived, mendsB, wireB, GoesB, ReceivesB, ReceivingB}
 use Rattle.payload_b.specs.PlanB.{Sendable}
-use Rattle.payload_b.proofs.Schemes.{sum-repeated, repeated-long}
-use Rattle.payload_b.proofs.Mapping.{length-mapped, entries-repeated, points-mapped, stray-mapped, labelled-mapped}
+use Rattle.symbols.proofs.Schemes.{sum-repeated, repeated-long}
+use Rattle.symbols.proofs.Mapping.{length-mapped, entries-repeated, points-mapped, stray-mapped, labelled-mapped}
 use Rattle.payload_b.proofs.Plans.{some-blocks, symbols-hold}
 use Rattle.payload_b.proofs.Blockwise.{bits-codedB, length-coded}
 use Rattle.payload_b.proofs.VerdictsB.{receivable, legal}

@@ -8,11 +8,12 @@ use borrow.Author.Tests.{le-leb, le-ltb}
 use lib.IntN.{ℤ}
 use lib.ListN.{length}
 use Rattle.symbols.specs.Grids.{received, firstOccupied}
-use Rattle.payload_b.specs.CodedB.{symbolsFor, repeated}
+use Rattle.payload_b.specs.CodedB.{symbolsFor}
+use Rattle.symbols.specs.Schemes.{repeated, strayIn}
 use Rattle.answers.specs.Checks.{Checked, passes, failing}
 use Rattle.symbols.specs.Grids.{room}
 use Rattle.answers.specs.declared.Refusal.{Refusal}
-use Rattle.payload_b.specs.PromiseB.{planned, strayIn, pointsCheckedB, receiveCheckedB}
+use Rattle.payload_b.specs.PromiseB.{planned, pointsCheckedB, receiveCheckedB}
 use Rattle.payload_b.specs.PlanB.{Sendable}
 use Rattle.payload_b.proofs.Plans.{plan-passes}
 

@@ -1,19 +1,17 @@
 -- Payload B on the wire (clause 7.5, document 01 "Payload B on the wire"): from a frame and a scheme to the points of as many OFDM symbols as it needs.
 -- Assumes nothing.
 use mathlib.Core.Bool.{cond}
-use mathlib.Core.List.{List, [], _∷_, _++_}
+use mathlib.Core.List.{List, [], _++_}
 use Prim.Native.Nat.{ℕ, zero, suc, _+_, _-_, _*_, _/_}
 use lib.Dec.{eqb}
 use lib.IntN.{ℤ}
 use lib.ListN.{length, take, drop, replicate}
-use Rattle.bits.specs.Words.{digits}
 use Rattle.bch.specs.Codes.{Code, code1, code2, encoded}
 use Rattle.points.specs.declared.Point.{Point}
-use Rattle.points.specs.declared.Label.{Label}
-use Rattle.points.specs.Constellations.{pointOf, labelOf, labelNumber, levelI, levelQ}
-use Rattle.bits.specs.Bytes.{bitsOf, asNumber}
+use Rattle.bits.specs.Bytes.{bitsOf}
 use Rattle.payload.specs.Scrambler.{scrambled}
 use Rattle.symbols.specs.Grids.{placed}
+use Rattle.symbols.specs.Schemes.{sumOf, repeated, mapped}
 
 -- ---- modes: 0 is uncoded, 1 uses (508,472), 2 uses (504,432)
 
@@ -48,11 +46,6 @@ codedB mode frame = blocksOf mode (blocksIn mode (length frame)) (scrambled (bit
 
 -- ---- OFDM symbols
 
--- the scheme gives bits per point for s(1), .., s(210): so many bits to an OFDM symbol
-unfoldable pub sumOf : List ℕ → ℕ
-sumOf [] = 0
-sumOf (n ∷ ns) = n + sumOf ns
-
 -- how many bits the blocks of a frame of n bytes have, the fill left out
 abbrev pub bitsFor : ℕ → ℕ → ℕ
 bitsFor mode n = blockBits mode * blocksIn mode n
@@ -60,16 +53,6 @@ bitsFor mode n = blockBits mode * blocksIn mode n
 -- OFDM symbols needed: coded bits divided by the scheme's sum, rounded up
 abbrev pub symbolsFor : ℕ → ℕ → List ℕ → ℕ
 symbolsFor mode n scheme = (bitsFor mode n + (sumOf scheme - 1)) / sumOf scheme
-
--- the scheme is the same in every OFDM symbol
-unfoldable pub repeated : ℕ → List ℕ → List ℕ
-repeated zero scheme = []
-repeated (suc m) scheme = scheme ++ repeated m scheme
-
--- bits fill points in order, the first bit being b(n-1)
-unfoldable pub mapped : List ℕ → List ℕ → List Point
-mapped [] bits = []
-mapped (n ∷ ns) bits = pointOf n (asNumber (take n bits)) ∷ mapped ns (drop n bits)
 
 -- the last OFDM symbol is filled up with zero bits, unscrambled
 abbrev pub filledUp : ℕ → List ℕ → List ℕ
@@ -83,15 +66,3 @@ pointsB mode frame scheme =
 
 unfoldable pub sentB : (Point → ℤ) → ℕ → List ℕ → List ℕ → List ℤ
 sentB level mode frame scheme = placed level (symbolsFor mode (length frame) scheme) (pointsB mode frame scheme)
-
--- ---- and back
-
--- the label of a point of n bits
-abbrev pub pointLabel : ℕ → Point → Label
-pointLabel n p = labelOf n (levelI p) (levelQ p)
-
--- the bits that points stand for: of each, its label in as many bits as its entry of the scheme says, b(n-1) first
-unfoldable pub labelled : List ℕ → List Point → List ℕ
-labelled [] ps = []
-labelled (n ∷ ns) [] = []
-labelled (n ∷ ns) (p ∷ ps) = digits n (labelNumber (pointLabel n p)) ++ labelled ns ps

@@ -3,19 +3,13 @@
 use mathlib.Core.Path.{_≡_}
 use mathlib.Core.List.{List}
 use Prim.Native.Nat.{ℕ, _%_, _≤_, _<_}
-use lib.ListN.{length}
 use Rattle.answers.specs.Checks.{Checked, failing}
-use Rattle.symbols.specs.Grid.{symbolPoints}
-use Rattle.payload_b.specs.CodedB.{blockBytes, blocksIn, sumOf, symbolsFor}
-use Rattle.payload_b.specs.PromiseB.{mostSymbols, badEntry, planned}
+use Rattle.payload_b.specs.CodedB.{blockBytes, blocksIn, symbolsFor}
+use Rattle.symbols.specs.Schemes.{sumOf, Scheme}
+use Rattle.payload_b.specs.PromiseB.{mostSymbols, planned}
 use Rattle.payload_b.specs.declared.plan.Plan.{Plan}
 use Rattle.payload_b.specs.declared.plan.Verdict.{Verdict}
 use Rattle.payload_b.specs.declared.plan.Verdict.the-variants.{Passes, Fails}
-
--- a scheme of 210 entries, each from 2 to 10
-pub record Scheme (scheme : List ℕ) : Type 0 where
-  pub long : length scheme ≡ symbolPoints
-  pub entries : badEntry scheme ≡ symbolPoints
 
 -- what is known where they pass: a frame of n bytes can be sent
 pub record Sendable (mode n : ℕ) (scheme : List ℕ) : Type 0 where

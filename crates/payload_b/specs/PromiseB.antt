@@ -3,33 +3,28 @@
 -- Assumes nothing.
 use mathlib.Core.Path.{_≡_}
 use mathlib.Core.Logic.{_⊎_, _≢_}
-use mathlib.Core.Bool.{cond, _&&_, _||_}
-use mathlib.Core.List.{List, _++_, zipWith}
+use mathlib.Core.Bool.{cond, _&&_}
+use mathlib.Core.List.{List, _++_}
 use Prim.Native.Nat.{ℕ, _*_, _%_}
 use lib.Dec.{eqb, leb, ltb}
 use lib.IntN.{ℤ}
 use lib.ListN.{length, take, drop, replicate}
-use Rattle.ground.specs.First.{firstIn}
 use Rattle.answers.specs.Answers.{accepted, refused, ofWritten, ofReceivedB}
 use Rattle.answers.specs.Checks.{Checked, fails, passes}
 use Rattle.answers.specs.declared.Written.{Written}
 use Rattle.answers.specs.declared.ReceivedB.{ReceivedB}
-use Rattle.points.specs.declared.Point.{Point}
-use Rattle.points.specs.Constellations.{isStray, levelI, levelQ}
+use Rattle.points.specs.Constellations.{levelI, levelQ}
 use Rattle.symbols.specs.Grid.{subCarriers, symbolPoints}
 use Rattle.symbols.specs.Grids.{received, indexOf, firstOccupied, room}
 use Rattle.payload.specs.Wire.{Wire, total, worst, Fits, FirstHopeless}
-use Rattle.payload_b.specs.CodedB.{blockBytes, blockBits, codeB, blocksIn, bitsFor, codedB, symbolsFor, repeated, sentB, pointLabel, labelled}
+use Rattle.payload_b.specs.CodedB.{blockBytes, blockBits, codeB, blocksIn, bitsFor, codedB, symbolsFor, sentB}
+use Rattle.symbols.specs.Schemes.{badEntry, repeated, strayIn, labelled}
 
 -- ---- the checks 1, 2, 5 and 6, which both directions begin with
 
 -- a frame that needs more OFDM symbols is refused
 abbrev pub mostSymbols : ℕ
 mostSymbols = 256
-
--- the first entry of a scheme outside 2..10; the length where there is none
-abbrev pub badEntry : List ℕ → ℕ
-badEntry scheme = firstIn (λ n. ltb n 2 || ltb 10 n) scheme
 
 -- and then the checks that follow
 abbrev pub planned : ℕ → ℕ → List ℕ → Checked Unit → Checked Unit
@@ -61,10 +56,6 @@ abbrev pub SendingB : ℕ → List ℕ → List ℕ → List ℤ → List ℤ �
 SendingB mode frame scheme is qs = SendsB (sendCheckedB mode frame scheme is qs) mode frame scheme is qs
 
 -- ---- receive
-
--- the place of the first point that is none of its sub-carrier's constellation; the number of points where there is none
-abbrev pub strayIn : List ℕ → List Point → ℕ
-strayIn scheme ps = firstIn isStray (zipWith pointLabel scheme ps)
 
 -- checks 7 and 8, over m OFDM symbols: 7 over all before 8 begins
 abbrev pub pointsCheckedB : ℕ → List ℕ → List ℤ → List ℤ → Checked Unit

@@ -1,6 +1,4 @@
 // Payload B of HiNoC (ITU-T J.195.2, clause 7.5, as document 01 reads it): what it means to send and to receive it, and what both jobs begin with.
 //
 //   plan        the checks 1, 2, 5 and 6, and how many OFDM symbols a frame needs
-//   zeros       lists that are all zero
 pub mod plan;
-pub mod zeros;

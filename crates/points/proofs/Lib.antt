@@ -2,5 +2,6 @@
 pub mod Signed
 pub mod Places
 pub mod Lending
+pub mod Legal
 pub mod Rules
 pub mod Turns

@@ -70,7 +70,7 @@ signsOf i q = i .sign % 2 * 2 + q .sign % 2
 
 -- the low bits that the quadrant of n bits has at row x and column y: the table's first row says where it starts
 abbrev pub lowIn : List ℕ → ℕ → ℕ → ℕ → ℕ
-lowIn quadrants n x y = byteIn 848 quadrants (16 * (byteIn 848 quadrants (n % 16) + x % 16) + y % 16)
+lowIn quadrants n x y = byteIn 1024 quadrants (16 * (byteIn 1024 quadrants (n % 16) + x % 16) + y % 16)
 
 -- the one label of n bits, but of 3, that two levels can have
 abbrev pub quarterGuess : List ℕ → ℕ → Parts → Parts → ℕ
@@ -93,6 +93,10 @@ unfoldable pub labelIn : List ℕ → List ℕ → ℕ → ℤ → ℤ → Label
 labelIn cells quadrants n i q =
     let guess = guessIn quadrants n (partsOf i) (partsOf q) in
     confirmed (pointIn cells n guess) guess i q
+
+-- the label of n bits that two levels are read as, without a look whether their point is of the constellation: 0, unless n is 2 to 10
+unfoldable pub readIn : List ℕ → ℕ → ℤ → ℤ → ℕ
+readIn quadrants n i q = cond (leb 2 n && leb n 10) (guessIn quadrants n (partsOf i) (partsOf q)) 0
 
 -- ---- our tables, from Annex B
 
@@ -136,6 +140,6 @@ startsFrom row (side ∷ rest) = row ∷ startsFrom (row + side) rest
 unfoldable pub quarterLows : ℕ → List ℕ
 quarterLows n = map (λ cell. placeFrom 0 cell (quarterCells n)) (upFrom 0 (16 * getD sides n 0))
 
--- the starts, and then the quadrants: the low bits of cell 16x + y at row x and column y
+-- the starts, and then the quadrants: the low bits of cell 16x + y at row x and column y; filled up to a power of two
 unfoldable pub ourQuadrants : List ℕ
-ourQuadrants = words 106 (startsFrom 1 sides ++ each quarterLows)
+ourQuadrants = words 128 (startsFrom 1 sides ++ each quarterLows)

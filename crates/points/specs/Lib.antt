@@ -5,3 +5,4 @@ pub mod Constellations
 pub mod Rules
 pub mod Dqpsk
 pub mod Lent
+pub mod Sizes

@@ -11,7 +11,7 @@ use crate::tables;
 ghost use mathlib.Core.Path.{_≡_};
 ghost use Prim.Native.Nat.{_≤_};
 ghost use Rattle.points.specs.Constellations.{pointOf, labelOf};
-ghost use Rattle.points.specs.Lent.{pointIn, guessIn, labelIn, ourCells, ourQuadrants};
+ghost use Rattle.points.specs.Lent.{pointIn, guessIn, labelIn, readIn, ourCells, ourQuadrants};
 
 // The point of a label of so many bits: nothing, unless they are 2 to 10 and hold the label.
 pub fn point(bits: u8, label: u16) -> Point
@@ -38,7 +38,7 @@ pub fn cells() -> [u64; 64]
 }
 
 // The second table to lend.
-pub fn quadrants() -> [u64; 106]
+pub fn quadrants() -> [u64; 128]
     ensures { λ r. ⌜ r ≡ ourQuadrants ⌝ }
 {
     tables::QUADRANTS
@@ -61,7 +61,7 @@ pub fn point_in(cells: &[u64; 64], bits: u8, label: u16) -> Point
 }
 
 // The label of so many bits of (i, q), by the tables that are lent, or that it is stray.
-pub fn label_in(cells: &[u64; 64], quadrants: &[u64; 106], bits: u8, i: i16, q: i16) -> Label
+pub fn label_in(cells: &[u64; 64], quadrants: &[u64; 128], bits: u8, i: i16, q: i16) -> Label
     ensures { λ r. ⌜ r ≡ labelIn (now (cells .entry)) (now (quadrants .entry)) bits i q ⌝ }
 {
     if bits < 2 {
@@ -74,8 +74,21 @@ pub fn label_in(cells: &[u64; 64], quadrants: &[u64; 106], bits: u8, i: i16, q: 
     look::confirmed(point_in(cells, bits, guess), guess, i, q)
 }
 
+// The label of so many bits that (i, q) is read as, by the table that is lent, without a look whether the point is of the constellation.
+pub fn read_in(quadrants: &[u64; 128], bits: u8, i: i16, q: i16) -> u16
+    ensures { λ r. ⌜ r ≡ readIn (now (quadrants .entry)) bits i q ⌝ }
+{
+    if bits < 2 {
+        return 0;
+    }
+    if 10 < bits {
+        return 0;
+    }
+    guess_in(quadrants, bits, level::apart(i), level::apart(q))
+}
+
 // The one label of so many bits that (i, q) can have.
-fn guess_in(quadrants: &[u64; 106], bits: u8, i: Parts, q: Parts) -> u16
+fn guess_in(quadrants: &[u64; 128], bits: u8, i: Parts, q: Parts) -> u16
     requires { ⌜ (2 ≤ bits) × (bits ≤ 10) ⌝ }
     ensures { λ r. ⌜ r ≡ guessIn (now (quadrants .entry)) bits i q ⌝ }
 {

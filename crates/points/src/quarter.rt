@@ -37,7 +37,7 @@ fn signed(signs: u16, cell: u8) -> Point
 }
 
 // The one label of so many bits that (i, q) can have.
-pub(crate) fn guess_in(quadrants: &[u64; 106], bits: u8, i: Parts, q: Parts) -> u16
+pub(crate) fn guess_in(quadrants: &[u64; 128], bits: u8, i: Parts, q: Parts) -> u16
     requires { ⌜ (2 ≤ bits) × (bits ≤ 10) ⌝ }
     ensures { λ r. ⌜ r ≡ quarterGuess (now (quadrants .entry)) bits i q ⌝ }
 {
@@ -53,7 +53,7 @@ fn first_two(quarter: u16, i: Parts, q: Parts) -> u16
 }
 
 // The low bits that the quadrant of so many bits has at row x and column y.
-fn low_in(quadrants: &[u64; 106], bits: u8, x: u16, y: u16) -> u16
+fn low_in(quadrants: &[u64; 128], bits: u8, x: u16, y: u16) -> u16
     ensures { λ r. ⌜ (r ≡ lowIn (now (quadrants .entry)) bits x y) × (r < 256) ⌝ }
 {
     let start = byte_in(quadrants, (bits % 16) as u16);
@@ -69,10 +69,10 @@ fn cell_in(cells: &[u64; 64], k: u16) -> u8
 }
 
 // Byte k of the table of quadrants, going round.
-fn byte_in(quadrants: &[u64; 106], k: u16) -> u16
-    ensures { λ r. ⌜ (r ≡ byteIn 848 (now (quadrants .entry)) k) × (r < 256) ⌝ }
+fn byte_in(quadrants: &[u64; 128], k: u16) -> u16
+    ensures { λ r. ⌜ (r ≡ byteIn 1024 (now (quadrants .entry)) k) × (r < 256) ⌝ }
 {
-    let k = (k % 848) as usize;
+    let k = (k % 1024) as usize;
     level::wide(byte(quadrants[k / 8], k))
 }
 

@@ -78,7 +78,7 @@ pub const CELLS: [u64; 64] = [
 
 // The quadrants of positive levels, sixteen bytes to a level of I: byte 16X + Y has the low bits of cell 0xXY, and 0
 // where no point stands. The first sixteen bytes say in which of these rows the quadrant of n bits starts.
-pub const QUADRANTS: [u64; 106] = [
+pub const QUADRANTS: [u64; 128] = [
     // where each quadrant starts, by n
     0x0101_0102_0204_070b,
     0x1119_2500_0000_0000,
@@ -194,4 +194,27 @@ pub const QUADRANTS: [u64; 106] = [
     0x1213_1716_0607_0302,
     0x4041_4544_5455_5150,
     0x1011_1514_0405_0100,
+    // nothing, up to a power of two
+    0x0000_0000_0000_0000,
+    0x0000_0000_0000_0000,
+    0x0000_0000_0000_0000,
+    0x0000_0000_0000_0000,
+    0x0000_0000_0000_0000,
+    0x0000_0000_0000_0000,
+    0x0000_0000_0000_0000,
+    0x0000_0000_0000_0000,
+    0x0000_0000_0000_0000,
+    0x0000_0000_0000_0000,
+    0x0000_0000_0000_0000,
+    0x0000_0000_0000_0000,
+    0x0000_0000_0000_0000,
+    0x0000_0000_0000_0000,
+    0x0000_0000_0000_0000,
+    0x0000_0000_0000_0000,
+    0x0000_0000_0000_0000,
+    0x0000_0000_0000_0000,
+    0x0000_0000_0000_0000,
+    0x0000_0000_0000_0000,
+    0x0000_0000_0000_0000,
+    0x0000_0000_0000_0000,
 ];

@@ -8,11 +8,19 @@ use Prim.Native.Nat.{ℕ, _+_, _-_, _*_, _≤_}
 use native.Mathlib.Omega.{arith}
 use native.Mathlib.Numerals.{add-one}
 use lib.IntN.{ℤ}
-use lib.ListN.{length, take, drop, replicate, take-append-drop}
-use lib.Seq.{take-at}
+use lib.ListN.{length, take, drop, replicate, length-append, take-append-drop}
+use lib.Seq.{take-at, length-take-le}
+use Rattle.ground.proofs.Firsts.{first}
+use Rattle.packed.specs.Packed.{bitsFrom, bits512, paddedTo}
+use Rattle.packed.proofs.Walks.{length-512}
 use Rattle.points.specs.declared.Point.{Point}
+use Rattle.points.specs.declared.Label.the-variants.{Stray}
+use Rattle.points.specs.Constellations.{isStray}
+use Rattle.points.specs.Lent.{ourQuadrants}
 use Rattle.symbols.specs.Grids.{pointsFrom, received}
-use Rattle.payload_b.specs.CodedB.{blockBytes, blockBits, blocksIn, bitsFor, symbolsFor, repeated, labelled}
+use Rattle.payload_b.specs.CodedB.{blockBytes, blockBits, blocksIn, bitsFor, symbolsFor}
+use Rattle.symbols.specs.Schemes.{Scheme, sumOf, repeated, labelled, strayIn}
+use Rattle.symbols.specs.ByScheme.{readBy, symbolRead}
 use Rattle.answers.specs.Answers.{accepted}
 use Rattle.answers.specs.Checks.{passes}
 use Rattle.payload_b.specs.PromiseB.{bitsReceived, GoesB, HopelessB, ReceivesB}
@@ -23,36 +31,70 @@ use Rattle.receiver_b.specs.declared.stream.Stream.{Stream}
 use Rattle.receiver_b.specs.declared.stream.Tally.{Tally}
 use Rattle.answers.specs.declared.Refusal.the-variants.{Uncorrectable}
 use Rattle.answers.specs.declared.ReceivedB.the-variants.{Accepted, Refused}
-use Rattle.symbols.proofs.Readings.{received-one, received-add, points-take}
-use Rattle.payload_b.proofs.Schemes.{repeated-more}
+use Rattle.symbols.proofs.Readings.{length-points, received-one, received-add, points-take}
+use Rattle.symbols.proofs.Schemes.{repeated-more}
+use Rattle.symbols.proofs.Mapping.{as-many, length-symbols}
+use Rattle.symbols.proofs.Labelled.{labels, labels-long}
 use Rattle.payload_b.proofs.Plans.{whole-blocks, symbols-hold}
-use Rattle.receiver_b.proofs.Labelled.{labelled-append}
-use Rattle.payload_b.proofs.Mapping.{as-many, length-symbols}
+use Rattle.symbols.proofs.ReadBits.{read-append, length-read, read-labelled}
+use Rattle.receiver_b.proofs.Faults.{is-readable}
 use Rattle.receiver_b.proofs.Taking.{began-taken, all-done}
 
--- ---- OFDM symbols
+-- ---- OFDM symbols, read by any table
 
-module _ (scheme : List ℕ) (is qs : List ℤ) where
-  -- the bits of m OFDM symbols
-  abbrev pub bitsOfSymbols : ℕ → List ℕ
-  bitsOfSymbols m = labelled (repeated m scheme) (received m is qs)
+module _ (quadrants scheme : List ℕ) (is qs : List ℤ) where
+  -- the bits of m of them
+  abbrev pub bitsRead : ℕ → List ℕ
+  bitsRead m = readBy quadrants (repeated m scheme) (received m is qs)
 
-  pub symbol-none : bitsOfSymbols 0 ≡ []
-  unfolding labelled repeated
+  pub symbol-none : bitsRead 0 ≡ []
+  unfolding readBy repeated
   symbol-none = refl
 
   -- those of one more, read from the part of the lists that belongs to it
   pub symbol-part : length scheme ≡ 210 → (m : ℕ)
-      → bitsOfSymbols (m + 1)
-      ≡ bitsOfSymbols m
-      ++ labelled scheme (pointsFrom (take (256 * m + 256 - 256 * m) (drop (256 * m) is)) (take (256 * m + 256 - 256 * m) (drop (256 * m) qs)) 1 210)
+      → bitsRead (m + 1)
+      ≡ bitsRead m
+      ++ readBy quadrants scheme
+      (pointsFrom (take (256 * m + 256 - 256 * m) (drop (256 * m) is)) (take (256 * m + 256 - 256 * m) (drop (256 * m) qs)) 1 210)
   symbol-part long m =
       let size : 256 * m + 256 - 256 * m ≡ 256 = omega arith in
       let points : received (m + 1) is qs ≡ received m is qs ++ pointsFrom (drop (256 * m) is) (drop (256 * m) qs) 1 210
       = received-add m 1 is qs ∙ ap (λ (ps : List Point). received m is qs ++ ps) (received-one (drop (256 * m) is) (drop (256 * m) qs)) in
       rw (size, points-take (drop (256 * m) is) (drop (256 * m) qs))
-      (ap₂ labelled (ap (λ (n : ℕ). repeated n scheme) (add-one m) ∙ repeated-more scheme m) points
-      ∙ labelled-append (repeated m scheme) scheme (received m is qs) _ (as-many scheme long m is qs))
+      (ap₂ (readBy quadrants) (ap (λ (n : ℕ). repeated n scheme) (add-one m) ∙ repeated-more scheme m) points
+      ∙ read-append quadrants (repeated m scheme) scheme (received m is qs) _ (as-many scheme long m is qs))
+
+-- the bits of one stand in the run behind those that wait
+pub symbol-behind : (quadrants : List ℕ) {scheme : List ℕ} → Scheme scheme → (is qs : List ℤ) → 256 * 1 ≤ length is → 256 * 1 ≤ length qs
+    → (block run : List ℕ) (count n : ℕ) → count ≤ 512 → n ≡ sumOf scheme
+    → bitsFrom 41 0 run ≡ paddedTo 2624 (take count (bits512 block) ++ symbolRead quadrants scheme is qs)
+    → take (count + n) (bitsFrom 41 0 run) ≡ take count (bits512 block) ++ readBy quadrants scheme (pointsFrom is qs 1 210)
+symbol-behind quadrants {scheme} good is qs li lq block run count n few sum e =
+    let bits = readBy quadrants scheme (pointsFrom is qs 1 210) in
+    let held = take count (bits512 block) in
+    let read : symbolRead quadrants scheme is qs ≡ bits = rw (is-readable good 1 (omega arith) is qs li lq) in
+    let long : length (held ++ bits) ≡ count + n
+    = length-append held bits
+    ∙ omega (
+      arith,
+      length-take-le count (bits512 block) (omega (arith, length-512 block)),
+      length-read quadrants scheme (pointsFrom is qs 1 210) (length-points is qs 1 210 ∙ sym (good .long)),
+    ) in
+    ap (take (count + n)) (e ∙ ap (λ (w : List ℕ). paddedTo 2624 (held ++ w)) read) ∙ take-at (held ++ bits) _ (count + n) long
+
+-- ---- by our table
+
+-- the bits of m OFDM symbols
+abbrev pub bitsOfSymbols : List ℕ → List ℤ → List ℤ → ℕ → List ℕ
+bitsOfSymbols scheme is qs m = labelled (repeated m scheme) (received m is qs)
+
+-- where no point is stray, they are read
+pub none-stray : {quadrants scheme : List ℕ} → quadrants ≡ ourQuadrants → Scheme scheme → (m : ℕ) (is qs : List ℤ)
+    → 210 * m ≤ strayIn (repeated m scheme) (received m is qs) → bitsRead quadrants scheme is qs m ≡ bitsOfSymbols scheme is qs m
+none-stray {quadrants} {scheme} ours good m is qs all =
+    read-labelled quadrants ours (repeated m scheme) (received m is qs)
+    (omega (arith, labels-long good m is qs, first isStray Stray (labels good m is qs) .most))
 
 -- ---- at the end
 
@@ -65,13 +107,15 @@ module _ {mode n : ℕ} {scheme : List ℕ} (plan : Sendable mode n scheme) (is 
   symbols-enough : bitsFor mode n ≤ length all
   symbols-enough = rw (length-symbols scheme (plan .entries .long) (symbolsFor mode n scheme) is qs) (symbols-hold plan)
 
-  -- taken in by this plan, from the beginning
-  pub all-taken : {p : Plan} {from : Stream} {area area' held : List ℕ} {s : Tally} → p ≡ planOf mode n scheme → from ≡ began
-      → TakesIn mode (p .blocks) (bitsOfSymbols scheme is qs (p .symbols)) area (from .block) (from .tally) area' held s
-      → TakesIn mode (blocksIn mode n) all area (began .block) (began .tally) area' held s
-  all-taken ep ef on = rw (ep, ef) at on
+  -- read by this table and plan, they are taken in from the beginning
+  pub all-taken : {quadrants : List ℕ} {p : Plan} {from : Stream} {area area' held : List ℕ} {s : Tally} → quadrants ≡ ourQuadrants
+      → 210 * p .symbols ≤ strayIn (repeated (p .symbols) scheme) (received (p .symbols) is qs) → p ≡ planOf mode n scheme → from ≡ began
+      → TakesIn mode (p .blocks) (bitsRead quadrants scheme is qs (p .symbols)) area (bits512 (from .block)) (from .tally) area' held s
+      → TakesIn mode (blocksIn mode n) all area (bits512 (began .block)) (began .tally) area' held s
+  all-taken {quadrants} {p} ours clear ep ef on =
+      rw (none-stray ours (plan .entries) (p .symbols) is qs clear, ep, ef) at on
 
-  module _ {area area' held : List ℕ} {s : Tally} (on : TakesIn mode (blocksIn mode n) all area (began .block) (began .tally) area' held s) where
+  module _ {area area' held : List ℕ} {s : Tally} (on : TakesIn mode (blocksIn mode n) all area (bits512 (began .block)) (began .tally) area' held s) where
     -- nothing beyond the frame is touched
     beyond : drop n area' ≡ drop n area
     beyond = rw (← whole-blocks mode n (plan .whole)) at (on .1 .beyond)

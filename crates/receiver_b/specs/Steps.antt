@@ -3,39 +3,33 @@
 -- Assumes nothing.
 use mathlib.Core.Path.{_≡_}
 use mathlib.Core.Logic.{_≢_}
-use mathlib.Core.Bool.{Bool, true, false, cond}
+use mathlib.Core.Bool.{Bool, true, false, cond, _&&_}
 use mathlib.Core.List.{List, [], _++_}
-use Prim.Native.Nat.{ℕ, _+_, _*_, _≤_, _<_}
+use Prim.Native.Nat.{ℕ, _+_, _-_, _*_, _≤_, _<_}
+use lib.Dec.{leb, ltb}
 use lib.IntN.{ℤ}
 use lib.ListN.{length, take, drop, replicate}
 use Rattle.answers.specs.declared.Refusal.the-variants.{Uncorrectable}
-use Rattle.answers.specs.declared.Decoded.{Decoded}
-use Rattle.answers.specs.declared.Decoded.the-variants.{Accepted as Accepts, Refused as RefusesIt}
 use Rattle.answers.specs.declared.ReceivedB.{ReceivedB}
 use Rattle.answers.specs.declared.ReceivedB.the-variants.{Accepted, Refused}
-use Rattle.bits.specs.Words.{Bits, differ}
+use Rattle.bits.specs.Words.{differ}
 use Rattle.bits.specs.Bytes.{Bytes, bitsOf}
 use Rattle.bch.specs.Codes.{Within}
-use Rattle.points.specs.Lent.{ourCells, ourQuadrants}
+use Rattle.packed.specs.Packed.{bits512, padded}
 use Rattle.symbols.specs.Grid.{subCarriers}
 use Rattle.payload.specs.Scrambler.{start, scrambledFrom, registerAfter}
 use Rattle.payload.specs.Wire.{worstOf, Fits, FirstHopeless}
-use Rattle.payload_b.specs.CodedB.{blockBytes, blockBits, codeB, blockOf, codedB, sumOf}
+use Rattle.payload_b.specs.CodedB.{blockBytes, blockBits, codeB, blockOf, codedB}
+use Rattle.symbols.specs.Schemes.{sumOf, Scheme}
 use Rattle.payload_b.specs.PromiseB.{mendsB, wireB}
-use Rattle.payload_b.specs.PlanB.{Scheme, Sendable, planOf}
+use Rattle.payload_b.specs.PlanB.{Sendable, planOf}
 use Rattle.payload_b.specs.declared.plan.Plan.{Plan}
 use Rattle.receiver_b.specs.declared.stream.Stream.{Stream}
 use Rattle.receiver_b.specs.declared.stream.Tally.{Tally}
 use Rattle.receiver_b.specs.declared.block.Finished.{Finished}
 use Rattle.receiver_b.specs.declared.block.Finished.the-variants.{Mended, Hopeless}
 
--- ---- what is lent, and what is planned
-
--- our tables, and a scheme
-pub record Lent (cells quadrants scheme : List ℕ) : Type 0 where
-  pub cells-are : cells ≡ ourCells
-  pub quadrants-are : quadrants ≡ ourQuadrants
-  pub entries : Scheme scheme
+-- ---- what is planned
 
 -- a frame whose checks 1, 2, 5, 6 and 3 pass
 pub record Receivable (mode size : ℕ) (scheme : List ℕ) (plan : Plan) (is qs : List ℤ) (area : List ℕ) : Type 0 where
@@ -52,18 +46,6 @@ pub record NoneNear (mode : ℕ) (block : List ℕ) : Type 0 where
   pub coded : mode ≢ 0
   pub none : (v : List ℕ) → Within (codeB mode) block v → ⊥
 
--- the information of the block sent stands at the front, and so many places of the block differ
-pub record Informs (mode : ℕ) (block out : List ℕ) (count : ℕ) : Type 0 where
-  pub long : length out ≡ 508
-  pub bits : Bits (take (8 * blockBytes mode) out)
-  pub near : count ≤ mendsB mode
-  pub counted : count ≡ differ (blockOf mode (take (8 * blockBytes mode) out)) block
-
--- what `mend` promises
-abbrev pub Mends : ℕ → List ℕ → List ℕ → Decoded → Type 0
-Mends mode block out (Accepts count) = Informs mode block out count
-Mends mode block out (RefusesIt why) = NoneNear mode block
-
 -- the bytes of the block sent are written, so many places of the block differ, and the register is carried on
 pub record Writes (mode register : ℕ) (block : List ℕ) (count after : ℕ) (out : List ℕ) : Type 0 where
   pub long : length out ≡ blockBytes mode
@@ -77,22 +59,22 @@ abbrev pub Finishes : ℕ → ℕ → List ℕ → List ℕ → Finished → Lis
 Finishes mode register block out (Mended count after) out' = Writes mode register block count after out'
 Finishes mode register block out Hopeless out' = NoneNear mode block × (out' ≡ out)
 
--- ---- bits on their way to the next block
+-- ---- bits on their way to the next block: `held` are bits of which the first `count` wait
 
--- room for a block, with bits
-abbrev pub Holding : List ℕ → Type 0
-Holding held = (length held ≡ 508) × Bits held
-
--- a state that the code may go on from: the block held, and the tally
-pub record Sane (mode blocks : ℕ) (held : List ℕ) (s : Tally) : Type 0 where
-  pub block : Holding held
-  pub partial : s .count < blockBits mode
+-- a tally that the code may go on from
+pub record Counts (mode blocks : ℕ) (s : Tally) : Type 0 where
   pub few : s .done ≤ blocks
   pub mended : s .mended ≤ blockBytes mode * s .done
 
+-- a state that the code may go on from: less than a block waits, and behind it there are zeros
+pub record Sane (mode blocks : ℕ) (held : List ℕ) (s : Tally) : Type 0 where
+  pub partial : s .count < blockBits mode
+  pub counts : Counts mode blocks s
+  pub behind : held ≡ padded (take (s .count) held)
+
 -- nothing taken in yet
 abbrev pub began : Stream
-began = record { block = replicate 508 0; tally = record { count = 0; done = 0; register = start; mended = 0; worst = 0; good = true } }
+began = record { block = replicate 8 0; tally = record { count = 0; done = 0; register = start; mended = 0; worst = 0; good = true } }
 
 -- m blocks are mended: their bits, the frame that they are sent for, the register after it, and how many bits were mended, in all and in the worst block
 pub record Done (mode m : ℕ) (bits frame : List ℕ) (register count worst : ℕ) : Type 0 where
@@ -102,7 +84,8 @@ pub record Done (mode m : ℕ) (bits frame : List ℕ) (register count worst : �
   pub counted : count ≡ differ (codedB mode frame) bits
   pub largest : worst ≡ worstOf (blockBits mode) m (codedB mode frame) bits
 
--- of the bits `fed`, each whole block is mended and the rest waits; the frame so far stands at the front of the area. Behind all blocks comes the fill
+-- of the bits `fed`, the whole blocks that are done are mended and the rest waits; the frame so far stands at the front of the area. Behind all blocks comes
+-- the fill
 pub record Going (mode blocks : ℕ) (fed area held : List ℕ) (s : Tally) : Type 0 where
   pub bits : List ℕ
   pub fill : List ℕ
@@ -134,25 +117,74 @@ pub record Moves (mode blocks : ℕ) (bits area held : List ℕ) (s : Tally) (ar
 abbrev pub TakesIn : ℕ → ℕ → List ℕ → List ℕ → List ℕ → Tally → List ℕ → List ℕ → Tally → Type 0
 TakesIn mode blocks bits area held s area' held' s' = Sane mode blocks held' s' × Moves mode blocks bits area held s area' held' s'
 
--- a state whose block is full
-pub record Full (mode : ℕ) (area held : List ℕ) (s : Tally) : Type 0 where
+-- whether bits are looked at: not behind the last block, nor once a block could not be mended
+abbrev pub wants : ℕ → Tally → Bool
+wants blocks s = s .good && ltb (s .done) blocks
+
+-- whether a full block waits
+abbrev pub wantsBlock : ℕ → ℕ → Tally → Bool
+wantsBlock blocks size s = wants blocks s && leb size (s .count)
+
+-- a tally whose bits are looked at, no more than a run of 41 machine words holds, and an area with room for all blocks
+pub record Wanted (mode blocks : ℕ) (s : Tally) (area : List ℕ) : Type 0 where
   pub known : mode ≤ 2
-  pub block : Holding held
-  pub full : s .count ≡ blockBits mode
+  pub within : s .count ≤ 2624
+  pub good : s .good ≡ true
+  pub next : s .done < blocks
+  pub counts : Counts mode blocks s
+  pub room : blockBytes mode * blocks ≤ length area
+
+-- a full block waits
+pub record Full (mode : ℕ) (area : List ℕ) (s : Tally) : Type 0 where
+  pub some : 1 ≤ mode
+  pub known : mode ≤ 2
+  pub full : blockBits mode ≤ s .count
   pub fits : blockBytes mode * s .done + blockBytes mode ≤ length area
   pub mended : s .mended ≤ blockBytes mode * s .done
   pub good : s .good ≡ true
 
--- the full block is mended, or the state is stuck at it
-abbrev pub Closes : ℕ → List ℕ → List ℕ → Tally → List ℕ → Tally → Type 0
-Closes mode area held s area' s' = (blocks : ℕ) → s .done < blocks → TakesIn mode blocks [] area held s area' held s'
+-- it is mended, or the state is stuck at it: of the bits that wait, those of the block are gone
+pub record Closes (mode : ℕ) (area block : List ℕ) (s : Tally) (area' : List ℕ) (s' : Tally) : Type 0 where
+  pub shorter : s' .count ≡ s .count - blockBits mode
+  pub counts : (blocks : ℕ) → s .done < blocks → Counts mode blocks s'
+  pub moves : (blocks : ℕ) → s .done < blocks → (held : List ℕ) → take (blockBits mode) held ≡ take (blockBits mode) block
+      → Moves mode blocks [] area held s area' (drop (blockBits mode) held) s'
+
+-- of the bits that wait the first are taken in
+pub record Shortens (mode blocks : ℕ) (area held : List ℕ) (s : Tally) (area' : List ℕ) (s' : Tally) : Type 0 where
+  pub fewer : s' .count ≤ s .count
+  pub counts : Counts mode blocks s'
+  pub moves : Moves mode blocks [] area held s area' (drop (s .count - s' .count) held) s'
+
+-- and less than a block is left where bits are still looked at
+abbrev pub TakesBlocks : ℕ → ℕ → List ℕ → List ℕ → Tally → List ℕ → Tally → Type 0
+TakesBlocks mode blocks area held s area' s' = Shortens mode blocks area held s area' s' × (wants blocks s' ≡ true → s' .count < blockBits mode)
+
+-- of the first bits of a run, so many, the last wait; where bits are looked at they fit eight machine words
+pub record Ends (blocks total : ℕ) (s : Tally) : Type 0 where
+  pub within : total ≤ 2624
+  pub fewer : s .count ≤ total
+  pub short : wants blocks s ≡ true → s .count ≤ 512
+
+-- how many are left: none where no more bits are looked at
+abbrev pub leftIn : ℕ → Tally → ℕ
+leftIn blocks s = cond (wants blocks s) (s .count) 0
+
+-- so many of the bits that wait are kept
+abbrev pub keeping : ℕ → Tally → Tally
+keeping n s = record { count = n; done = s .done; register = s .register; mended = s .mended; worst = s .worst; good = s .good }
+
+-- those that are left go into the unfinished block
+pub record Leaves (blocks : ℕ) (held : List ℕ) (s : Tally) (held' : List ℕ) (s' : Tally) : Type 0 where
+  pub bits : held' ≡ padded (take (leftIn blocks s) held)
+  pub tally : s' ≡ keeping (leftIn blocks s) s
 
 -- what OFDM symbols need that are taken in, m of them
-pub record Ready (cells quadrants scheme : List ℕ) (mode : ℕ) (plan : Plan) (from : Stream) (m : ℕ) (is qs : List ℤ) (area : List ℕ) : Type 0 where
-  pub lent : Lent cells quadrants scheme
+pub record Ready (scheme : List ℕ) (mode : ℕ) (plan : Plan) (from : Stream) (m : ℕ) (is qs : List ℤ) (area : List ℕ) : Type 0 where
+  pub entries : Scheme scheme
   pub summed : plan .sum ≡ sumOf scheme
   pub known : mode ≤ 2
-  pub sane : Sane mode (plan .blocks) (from .block) (from .tally)
+  pub sane : Sane mode (plan .blocks) (bits512 (from .block)) (from .tally)
   pub long-i : subCarriers * m ≤ length is
   pub long-q : subCarriers * m ≤ length qs
   pub room : blockBytes mode * plan .blocks ≤ length area

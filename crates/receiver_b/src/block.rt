@@ -1,25 +1,12 @@
 // One block of Payload B received: mended, and its bytes written.
 ghost use mathlib.Core.Path.{_≡_};
 ghost use Prim.Native.Nat.{_≤_};
-ghost use lib.ListN.{length};
-ghost use Rattle.bits.specs.Words.{Bits};
+ghost use lib.ListN.{length, take};
+ghost use Rattle.packed.specs.Packed.{bits512};
 ghost use Rattle.payload_b.specs.CodedB.{blockBytes, blockBits};
-ghost use Rattle.receiver_b.specs.Steps.{Mends, Finishes};
+ghost use Rattle.receiver_b.specs.Steps.{Finishes};
 use answers::Decoded;
 use payload::scrambler;
-use payload_b::zeros;
-
-// Puts the information of a block's bits, mended, at the front of out.
-fn mend(mode: u8, block: &[u8], out: &mut [u8]) -> Decoded
-    requires { ⌜ (mode ≤ 2) × Bits (now block) × (length (now block) ≡ blockBits mode) × (length (now out) ≡ 508) ⌝ }
-    ensures { λ r. ⌜ Mends mode (now (block .entry)) (now (out .exit)) r ⌝ }
-{
-    if mode == 0 {
-        bytes::copy(block, out);
-        return Decoded::Accepted(0);
-    }
-    decoder::decode(mode, block, out).answer
-}
 
 // A block at its end: the bits mended, and the scrambler's register after; or no codeword is near enough.
 pub enum Finished {
@@ -27,18 +14,19 @@ pub enum Finished {
     Hopeless,
 }
 
-// Mends a block and writes its bytes.
-pub(crate) fn finish(mode: u8, block: &[u8], register: u16, out: &mut [u8]) -> Finished
-    requires { ⌜ (mode ≤ 2) × Bits (now block) × (length (now block) ≡ blockBits mode) × (length (now out) ≡ blockBytes mode) ⌝ }
-    ensures { λ f. ⌜ Finishes mode register (now (block .entry)) (now (out .entry)) f (now (out .exit)) ⌝ }
+// Mends a coded block, the first of the bits that are packed, and writes its bytes.
+pub(crate) fn finish(mode: u8, block: [u64; 8], register: u16, out: &mut [u8]) -> Finished
+    requires { ⌜ (1 ≤ mode) × (mode ≤ 2) × (length (now out) ≡ blockBytes mode) ⌝ }
+    ensures { λ f. ⌜ Finishes mode register (take (blockBits mode) (bits512 block)) (now (out .entry)) f (now (out .exit)) ⌝ }
 {
-    let k = out.len() * 8;
-    let mut word = zeros::no_block();
-    let Decoded::Accepted(count) = mend(mode, block, &mut word) else {
+    let decoded = decoder::decode_packed(mode, block);
+    let told = decoded.told;
+    let answer = told.answer;
+    let Decoded::Accepted(count) = answer else {
         return Finished::Hopeless;
     };
-    let after = scrambler::scramble(register, &mut word[0..k]);
-    bits::put_bytes(&word[0..k], out);
+    let bits = decoded.bits;
+    let after = scrambler::write_bytes(register, &bits, out);
     Finished::Mended {
         count,
         register: after,

@@ -1,6 +1,5 @@
 // Receives Payload B of HiNoC (ITU-T J.195.2, clause 7.5, as document 01 reads it): a frame from as many as 256 OFDM symbols.
 //
-//   symbol     OFDM symbols, by the scheme
 //   block      one block, mended
 //   stream     bits on their way, block by block
 //   receiver   one frame, whose checks pass but for those of points
@@ -9,7 +8,6 @@ ghost use Rattle.payload_b.specs.PromiseB.{ReceivingB};
 mod block;
 mod receiver;
 mod stream;
-mod symbol;
 
 use answers::ReceivedB;
 use answers::Refusal;

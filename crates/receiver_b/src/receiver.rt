@@ -8,14 +8,12 @@ ghost use Rattle.payload_b.specs.PromiseB.{pointsCheckedB, bitsReceived, Receiv
 ghost use Rattle.receiver_b.specs.Steps.{Receivable, settledB};
 use crate::stream;
 use crate::stream::Tally;
-use crate::symbol;
 use answers::ReceivedB;
 use answers::Refusal;
 use payload_b::plan::Plan;
 use points::constellation;
-use symbols::grid;
-use symbols::grid::POINTS;
-use symbols::grid::SUB_CARRIERS;
+use symbols::scheme;
+use symbols::scheme::Fault;
 
 // Makes each element of out zero.
 fn clear(out: &mut [u8])
@@ -56,27 +54,23 @@ pub(crate) fn receive(
     requires { ⌜ Receivable mode size (now scheme) plan (now i) (now q) (now area) ⌝ }
     ensures { λ r. ⌜ ReceivesB (pointsCheckedB (plan .symbols) (now (scheme .entry)) (now (i .entry)) (now (q .entry))) mode size (bitsReceived mode size (now (scheme .entry)) (now (i .entry)) (now (q .entry))) (now (area .entry)) r (now (area .exit)) ⌝ }
 {
-    let m = plan.symbols;
-    let occupied = grid::first_occupied(i, q, SUB_CARRIERS * m);
-    if occupied < SUB_CARRIERS * m {
-        return ReceivedB::Refused(Refusal::Occupied(occupied));
+    let found = scheme::first_fault(scheme, plan.symbols, i, q);
+    match found {
+        Fault::Occupied(at) => ReceivedB::Refused(Refusal::Occupied(at)),
+        Fault::StrayPoint(at) => ReceivedB::Refused(Refusal::StrayPoint(at)),
+        Fault::Clear => {
+            let quadrants = constellation::quadrants();
+            let end = stream::take_symbols(
+                &quadrants,
+                scheme,
+                mode,
+                plan,
+                stream::start(),
+                i,
+                q,
+                area,
+            );
+            settle(end.tally, size, area)
+        }
     }
-    let cells = constellation::cells();
-    let quadrants = constellation::quadrants();
-    let stray = symbol::first_stray(&cells, &quadrants, scheme, m, i, q);
-    if stray < POINTS * m {
-        return ReceivedB::Refused(Refusal::StrayPoint(grid::index(stray as u16)));
-    }
-    let end = stream::take_symbols(
-        &cells,
-        &quadrants,
-        scheme,
-        mode,
-        plan,
-        stream::start(),
-        i,
-        q,
-        area,
-    );
-    settle(end.tally, size, area)
 }

@@ -1,23 +1,21 @@
 -- The 192 bits from a place on, at the top of a register: three machine words, each put together from two that stand side by side.
 -- Assumes nothing.
 use mathlib.Core.Path.{_≡_, refl, sym, ap, ap₂, _∙_}
-use mathlib.Core.List.{List, [], _∷_, _++_, append-assoc, append-nil}
+use mathlib.Core.List.{List, [], _∷_, _++_, append-assoc}
 use Prim.Native.Nat.{ℕ, zero, suc, _+_, _-_, _*_, _/_, _%_, _^_, _≤_, _<_}
 use native.Mathlib.Omega.{arith}
 use native.Mathlib.Nat.{le-refl, mul-one, zero-add, div-one}
 use native.Mathlib.Numerals.{towards-suc}
 use lib.Arith.{digits-div, digits-mod}
-use lib.Bits.{bitOr}
 use lib.Dec.{lit≤}
-use lib.ListN.{length, getD, take, drop, replicate, length-append, length-take}
-use lib.ListN.{take-append-drop, drop-of-length-le, List·getD-eq-default, replicate-append-replicate}
-use lib.Pow.{shr-lt}
-use lib.Seq.{take-at, drop-at, drop-append-le, drop-append-add, getD-take}
+use lib.ListN.{length, getD, take, drop, replicate, length-append, length-take, drop-of-length-le}
+use lib.Seq.{take-at, drop-append-le, drop-append-add}
 use Rattle.bits.specs.Words.{digits}
 use Rattle.bits.proofs.Digits.{length-digits}
 use Rattle.packed.specs.Packed.{bitsFrom, bits512}
-use Rattle.bits.proofs.Shifts.{digits-zero, digits-mod-pow, digits-append, digits-or}
+use Rattle.bits.proofs.Shifts.{digits-mod-pow, digits-append}
 use Rattle.packed.proofs.Walks.{from-append, length-from, length-512}
+use Rattle.packed.proofs.Windows.{acrossOf, next-across, same-from, blank-from}
 use Rattle.bch.specs.Registers.{atTop}
 use Rattle.bch.proofs.Triples.{joined, joined-lt, joined-top}
 use Rattle.bch.proofs.Tops.{at-top-digits}
@@ -42,50 +40,6 @@ unfolding atTop
 at-top-zeros [] zero = refl
 at-top-zeros [] (suc n) = ap (λ (x : ℕ). 0 * 2 ^ 191 + x / 2) (at-top-zeros [] n)
 at-top-zeros (b ∷ bits) n = ap (λ (x : ℕ). b * 2 ^ 191 + x / 2) (at-top-zeros bits n)
-
--- ---- 64 digits across two machine words
-
-module _ (p x : ℕ) (h : p ≤ 64) where
-  split : digits 64 x ≡ digits p (x / 2 ^ (64 - p)) ++ digits (64 - p) x
-  split = let e : 64 ≡ p + (64 - p) = omega arith in ap (λ (n : ℕ). digits n x) e ∙ digits-append p (64 - p) x
-
-  drop-digits : drop p (digits 64 x) ≡ digits (64 - p) x
-  drop-digits = ap (drop p) split ∙ drop-at (digits p (x / 2 ^ (64 - p))) (digits (64 - p) x) p (length-digits p (x / 2 ^ (64 - p)))
-
-  take-digits : take p (digits 64 x) ≡ digits p (x / 2 ^ (64 - p))
-  take-digits = ap (take p) split ∙ take-at (digits p (x / 2 ^ (64 - p))) (digits (64 - p) x) p (length-digits p (x / 2 ^ (64 - p)))
-
--- the digits of a from the place p on, and behind them the p highest of b
-abbrev pub acrossOf : ℕ → ℕ → ℕ → List ℕ
-acrossOf a b p = drop p (digits 64 a) ++ take p (digits 64 b)
-
-pub across-none : (a b p : ℕ) → p ≡ 0 → digits 64 a ≡ acrossOf a b p
-across-none a b p e = rw e (sym (append-nil (digits 64 a)))
-
-pub across-some : (a b p : ℕ) → p ≤ 64 → b < 2 ^ 64 → digits 64 (bitOr (a * 2 ^ p % 2 ^ 64) (b / 2 ^ (64 - p))) ≡ acrossOf a b p
-across-some a b p h l =
-    let e : 64 ≡ 64 - p + p = omega arith in
-    let f : 64 ≡ p + (64 - p) = omega arith in
-    let s : b < 2 ^ (p + (64 - p)) = rw (← f) l in
-    ap (λ (n : ℕ). digits n (bitOr (a * 2 ^ p % 2 ^ 64) (b / 2 ^ (64 - p)))) e
-    ∙ digits-or (64 - p) p a (b / 2 ^ (64 - p)) (omega arith) (shr-lt p (64 - p) s)
-    ∙ sym (ap₂ _++_ (drop-digits p a h) (take-digits p b h))
-
--- a machine word behind another, from a place of the first on
-next-across : (ws : List ℕ) (n i p : ℕ) → p ≤ 64
-    → drop p (bitsFrom (suc (suc n)) i ws) ≡ acrossOf (getD ws i 0) (getD ws (suc i) 0) p ++ drop p (bitsFrom (suc n) (suc i) ws)
-unfolding bitsFrom
-next-across ws n i p h =
-    let a = digits 64 (getD ws i 0) in
-    let b = digits 64 (getD ws (suc i) 0) in
-    let rest = bitsFrom n (suc (suc i)) ws in
-    let la : p ≤ length a = omega (arith, length-digits 64 (getD ws i 0)) in
-    let lb : p ≤ length b = omega (arith, length-digits 64 (getD ws (suc i) 0)) in
-    drop-append-le p a (b ++ rest) la
-    ∙ ap (λ (v : List ℕ). drop p a ++ (v ++ rest)) (sym (take-append-drop p b))
-    ∙ ap (λ (v : List ℕ). drop p a ++ v) (append-assoc (take p b) (drop p b) rest)
-    ∙ sym (append-assoc (drop p a) (take p b) (drop p b ++ rest))
-    ∙ ap (λ (v : List ℕ). acrossOf (getD ws i 0) (getD ws (suc i) 0) p ++ v) (sym (drop-append-le p b rest lb))
 
 -- ---- three machine words at the top
 
@@ -119,19 +73,6 @@ three-across ws n i p h m l k eh em el =
 
 -- ---- eight machine words, with zeros behind them
 
-same-from : (ws : List ℕ) (n i : ℕ) → n + i ≤ 8 → bitsFrom n i ws ≡ bitsFrom n i (take 8 ws)
-unfolding bitsFrom
-same-from ws zero i h = refl
-same-from ws (suc n) i h = ap₂ (λ (x : ℕ) (v : List ℕ). digits 64 x ++ v) (sym (getD-take 8 ws i 0 (omega arith))) (same-from ws n (suc i) (omega arith))
-
-blank-from : (ws : List ℕ) (n i : ℕ) → length ws ≤ i → bitsFrom n i ws ≡ replicate (64 * n) 0
-unfolding bitsFrom
-blank-from ws zero i h = refl
-blank-from ws (suc n) i h =
-    let e : 64 + 64 * n ≡ 64 * suc n = omega arith in
-    ap₂ _++_ (ap (digits 64) (List·getD-eq-default ws 0 h) ∙ digits-zero 64) (blank-from ws n (suc i) (omega arith))
-    ∙ replicate-append-replicate 64 (64 * n) 0 ∙ ap (λ (k : ℕ). replicate k 0) e
-
 -- four more, and read from a place on
 more-from : (ws : List ℕ) (at : ℕ) → at ≤ 512
     → drop (at % 64) (bitsFrom (12 - at / 64) (at / 64) (take 8 ws)) ≡ drop at (bits512 ws) ++ replicate 256 0
@@ -145,7 +86,7 @@ more-from ws at h =
     let f : at ≡ length front + at % 64 = omega (arith, length-from i 0 eight) in
     let short : length eight ≤ 8 = omega (arith, length-take 8 ws) in
     let all : bits512 ws ++ replicate 256 0 ≡ bitsFrom 12 0 eight
-    = ap₂ _++_ (same-from ws 8 0 (lit≤ tt)) (sym (blank-from eight 4 8 short)) ∙ sym (from-append 8 4 0 eight) in
+    = ap₂ _++_ (same-from 8 ws 8 0 (lit≤ tt)) (sym (blank-from eight 4 8 short)) ∙ sym (from-append 8 4 0 eight) in
     let cut : bitsFrom 12 0 eight ≡ front ++ rest
     = ap (λ (n : ℕ). bitsFrom n 0 eight) e ∙ from-append i (12 - i) 0 eight ∙ ap (λ (j : ℕ). front ++ bitsFrom (12 - i) j eight) (zero-add i) in
     sym (sym (drop-append-le at (bits512 ws) (replicate 256 0) (omega (arith, length-512 ws)))

@@ -1,10 +1,8 @@
 // Remainders of packed words by a generator, sixteen bits a step, from its table of four parts of sixteen entries (bch's `register::table`), which is lent.
 ghost use mathlib.Core.Path.{_≡_};
-ghost use mathlib.Core.List.{_++_};
 ghost use Prim.Native.Nat.{_-_, _*_, _/_, _%_, _^_, _≤_, _<_, min};
 ghost use lib.Bits.{bitXor};
 ghost use lib.ListN.{getD, take, drop};
-ghost use Rattle.bits.specs.Words.{digits};
 ghost use Rattle.packed.specs.Packed.{bits512};
 ghost use Rattle.bch.specs.Registers.{contents, atTop, entryAt};
 ghost use Rattle.remainders.specs.Taking.{sixteenBy, turnBy8, turnBy16, bytesBy, takenBy, leftoverBy};
@@ -23,7 +21,7 @@ pub fn leftover(table: &[u64; 192], k: usize, words: &[u64; 8]) -> Register
 fn taken(table: &[u64; 192], m: usize, words: &[u64; 8]) -> Register
     ensures { λ q. ⌜ contents q ≡ takenBy (now (table .entry)) m (now (words .entry)) ⌝ }
 {
-    let bytes = least(m, 63);
+    let bytes = packed::least(m, 63);
     let mut r = Register {
         high: 0,
         mid: 0,
@@ -144,13 +142,6 @@ fn entry(table: &[u64; 192], i: usize) -> Register
     }
 }
 
-// The lesser of i and j.
-fn least(i: usize, j: usize) -> usize
-    ensures { λ r. ⌜ (r ≡ min i j) × (r ≤ j) ⌝ }
-{
-    if i < j { i } else { j }
-}
-
 // The 192 bits from the place `at` on at the top of a register; behind the last there are zeros.
 fn behind(words: &[u64; 8], at: usize) -> Register
     ensures { λ q. ⌜ contents q ≡ atTop (take 192 (drop at (bits512 (now (words .entry))))) ⌝ }
@@ -167,9 +158,9 @@ fn behind(words: &[u64; 8], at: usize) -> Register
     let a = machine_word_at(words, i + 1);
     let b = machine_word_at(words, i + 2);
     Register {
-        high: across(words[i], a, p),
-        mid: across(a, b, p),
-        low: across(b, machine_word_at(words, i + 3), p),
+        high: packed::across(words[i], a, p),
+        mid: packed::across(a, b, p),
+        low: packed::across(b, machine_word_at(words, i + 3), p),
     }
 }
 
@@ -178,16 +169,4 @@ fn machine_word_at(words: &[u64; 8], i: usize) -> u64
     ensures { λ r. ⌜ r ≡ getD (take 8 (now (words .entry))) i 0 ⌝ }
 {
     if i < 8 { words[i] } else { 0 }
-}
-
-// The digits of high from the place p on, and behind them the p highest of low.
-fn across(high: u64, low: u64, p: usize) -> u64
-    requires { ⌜ p < 64 ⌝ }
-    ensures { λ r. ⌜ digits 64 r ≡ drop p (digits 64 high) ++ take p (digits 64 low) ⌝ }
-{
-    if p == 0 {
-        high
-    } else {
-        high << p | low >> (64 - p)
-    }
 }

@@ -1,134 +1,85 @@
--- Sending Payload B block by block, and then the last OFDM symbol.
+-- OFDM symbols of Payload B sent one behind the other.
 -- Assumes nothing.
 use mathlib.Core.Path.{_≡_, refl, sym, ap, _∙_}
-use mathlib.Core.List.{List, [], _++_}
-use Prim.Native.Nat.{ℕ, _+_, _-_, _*_, _%_, _≤_, _<_}
-use native.Mathlib.Nat.{zero-mod, lt-of-mul-lt-mul-left, add-mod-right, le-div-iff-mul-le, div-eq-of-lt-le}
+use mathlib.Core.List.{List, [], _∷_, _++_, append-assoc}
+use Prim.Native.Nat.{ℕ, _+_, _-_, _*_, _≤_}
+use native.Mathlib.Numerals.{add-one}
 use native.Mathlib.Omega.{arith}
+use borrow.Rule.Slice.PartMut.{putMid, post-is}
 use lib.IntN.{ℤ}
-use lib.ListN.{length, take, drop, replicate, length-append, length-drop, length-replicate}
-use lib.Seq.{take-add, take-all, length-take-le}
-use Rattle.bits.specs.Bytes.{bitsOf}
-use Rattle.points.specs.Constellations.{levelI, levelQ}
-use Rattle.points.specs.Lent.{ourCells}
-use Rattle.payload.specs.Scrambler.{start, scrambledFrom, registerAfter}
-use Rattle.payload.proofs.Scrambling.{register-more}
-use Rattle.payload.proofs.Wires.{one-more}
-use Rattle.payload_b.specs.CodedB.{blockBytes, blockBits, blockOf, blocksIn, codedB, sumOf, bitsFor, symbolsFor, pointsB, sentB}
-use Rattle.payload_b.proofs.Schemes.{sum-least, sum-most}
-use Rattle.payload_b.proofs.Plans.{whole-blocks}
-use Rattle.payload_b.proofs.Blockwise.{coded-none, coded-more, length-block, length-codedB}
-use Rattle.sender_b.specs.Steps.{State, Pushed, Ready, Flushed, Passed, AllSent}
-use Rattle.sender_b.proofs.Pushing.{began, underway-none, pushed-none, pushed-more}
+use lib.ListN.{length, take, drop, length-append, length-drop}
+use lib.Seq.{take-at, drop-at, drop-drop}
+use Rattle.points.specs.declared.Point.{Point}
+use Rattle.symbols.specs.Grids.{placed}
+use Rattle.symbols.proofs.Placings.{length-placed, placed-one, placed-append}
+use Rattle.symbols.specs.Schemes.{sumOf, repeated, mapped, Scheme}
+use Rattle.symbols.proofs.Schemes.{sum-repeated, repeated-more, repeated-long}
+use Rattle.symbols.proofs.Mapping.{length-mapped}
+use Rattle.payload_b.specs.CodedB.{codedB, symbolsFor, filledUp, pointsB, sentB}
+use Rattle.sender_b.specs.Steps.{spreadOf, Behind, Sent, AllSent}
 
--- the blocks of the first `at` bytes were put in
-pub record Halfway (mode : ℕ) (frame scheme : List ℕ) (sum : ℕ) (pending₀ : List ℕ) (is₀ qs₀ : List ℤ) (at register : ℕ) (s : State) : Type 0 where
-  pub passed : Passed mode frame scheme sum is₀ qs₀
-  pub low : at ≤ length frame
-  pub whole : at % blockBytes mode ≡ 0
-  pub carried : register ≡ registerAfter (8 * at) start
-  pub long : length (s .pending) ≡ 2100
-  pub partial : s .count < sumOf scheme
-  pub pushed : Pushed scheme (codedB mode (take at frame)) (began pending₀ is₀ qs₀) s
+-- bits to points by one scheme behind another
+mapped-append : (a b bits : List ℕ) → mapped (a ++ b) bits ≡ mapped a bits ++ mapped b (drop (sumOf a) bits)
+unfolding mapped sumOf
+mapped-append [] b bits = refl
+mapped-append (n ∷ a) b bits = rw (mapped-append a b (drop n bits), drop-drop (sumOf a) n bits)
 
--- none of them at first
-pub halfway-none : {mode : ℕ} {frame scheme : List ℕ} {sum : ℕ} {is qs : List ℤ} → Passed mode frame scheme sum is qs → (pending : List ℕ)
-    → length pending ≡ 2100 → Halfway mode frame scheme sum pending is qs 0 start (began pending is qs)
-unfolding registerAfter
-halfway-none {mode} {scheme = scheme} {is = is} {qs = qs} passed pending long = record {
-  passed = passed;
-  low = omega arith;
-  whole = zero-mod (blockBytes mode);
-  carried = refl;
-  long = long;
-  partial = omega (arith, sum-least (passed .plan .entries));
-  pushed = rw (coded-none mode) (pushed-none scheme (began pending is qs));
-}
+-- a part of 256, written behind m others
+pub written-behind : (level : Point → ℤ) (scheme bits : List ℕ) (m : ℕ) (is : List ℤ) {part : List ℤ} → part ≡ spreadOf level scheme bits
+    → Behind level scheme bits m is (putMid (256 * m) (256 * m + 256 - 256 * m) is part)
+written-behind level scheme bits m is e = rw (e, post-is (256 * m) (256 * m + 256) is (omega arith)) refl
 
-module _ {mode : ℕ} {frame scheme : List ℕ} {sum : ℕ} {pending₀ : List ℕ} {is₀ qs₀ : List ℤ} {at register : ℕ} {s : State}
-    (p : Halfway mode frame scheme sum pending₀ is₀ qs₀ at register s) where
-  -- whole blocks were put in, of whole blocks
-  front-whole : length (take at frame) ≡ blockBytes mode * blocksIn mode at
-  front-whole = length-take-le at frame (p .low) ∙ whole-blocks mode at (p .whole)
+module _ (level : Point → ℤ) (scheme fed : List ℕ) where
+  -- none at first
+  pub sent-none : (is : List ℤ) → Sent level scheme fed 0 is is
+  unfolding placed
+  sent-none is = refl
 
-  frame-whole : length frame ≡ blockBytes mode * blocksIn mode (length frame)
-  frame-whole = whole-blocks mode (length frame) (p .passed .plan .whole)
+  module _ (m : ℕ) where
+    -- the points of one OFDM symbol more
+    mapped-more : mapped (repeated (m + 1) scheme) fed ≡ mapped (repeated m scheme) fed ++ mapped scheme (drop (sumOf scheme * m) fed)
+    mapped-more = rw (add-one m, repeated-more scheme m, mapped-append (repeated m scheme) scheme fed, sum-repeated scheme m)
 
-  -- more bits may be put in, as long as they are no more than the OFDM symbols needed hold
-  pub ready : {cells : List ℕ} → cells ≡ ourCells → (more : ℕ) → bitsFor mode at + more ≤ bitsFor mode (length frame) + (sumOf scheme - 1)
-      → Ready cells scheme sum s more
-  ready lent more all = record {
-    sending = record { lent = lent; entries = p .passed .plan .entries; summed = p .passed .summed };
-    wide = omega (arith, p .passed .summed, sum-most (p .passed .plan .entries), p .long);
-    partial = p .partial;
-    room = λ m l.
-        let fed : sumOf scheme * s .symbol + s .count ≡ bitsFor mode at
-        = omega (arith, p .pushed .counted, length-codedB mode (blocksIn mode at) (take at frame) front-whole) in
-        let few : m ≤ symbolsFor mode (length frame) scheme
-        = le-div-iff-mul-le {k = sumOf scheme} (omega (arith, sum-least (p .passed .plan .entries))) .1 (omega arith) in
-        omega (arith, p .pushed .long, p .passed .room);
-  }
+    -- and its sub-carriers
+    placed-more : Scheme scheme
+        → placed level (m + 1) (mapped (repeated (m + 1) scheme) fed)
+        ≡ placed level m (mapped (repeated m scheme) fed) ++ spreadOf level scheme (drop (sumOf scheme * m) fed)
+    placed-more good =
+        let ps = mapped (repeated m scheme) fed in
+        let rs = mapped scheme (drop (sumOf scheme * m) fed) in
+        rw (
+          mapped-more,
+          placed-append level m 1 ps rs (length-mapped (repeated m scheme) fed ∙ repeated-long scheme (good .long) m),
+          placed-one level rs (length-mapped scheme (drop (sumOf scheme * m) fed) ∙ good .long),
+        )
 
-  -- ---- one block more
+    module _ (is₀ : List ℤ) {is : List ℤ} (e : Sent level scheme fed m is₀ is) where
+      abbrev front : List ℤ
+      front = placed level m (mapped (repeated m scheme) fed)
 
-  module _ (next : at < length frame) where
-    blocks-left : blocksIn mode at < blocksIn mode (length frame)
-    blocks-left = lt-of-mul-lt-mul-left (blockBytes mode) (omega (arith, whole-blocks mode at (p .whole), frame-whole))
+      front-long : length front ≡ 256 * m
+      front-long = length-placed level m (mapped (repeated m scheme) fed)
 
-    -- it is there, and its bits are among those needed
-    pub block-there : at + blockBytes mode ≤ length frame
-    block-there =
-        omega (arith, one-more (blockBytes mode) (blocksIn mode at) (blocksIn mode (length frame)) blocks-left, whole-blocks mode at (p .whole), frame-whole)
+      -- the list is as long as it was
+      pub sent-long : 256 * m ≤ length is₀ → length is ≡ length is₀
+      sent-long room =
+          ap length e ∙ length-append front (drop (256 * m) is₀) ∙ omega (arith, front-long, length-drop (256 * m) is₀)
 
-    pub block-needed : bitsFor mode at + blockBits mode ≤ bitsFor mode (length frame) + (sumOf scheme - 1)
-    block-needed = omega (arith, one-more (blockBits mode) (blocksIn mode at) (blocksIn mode (length frame)) blocks-left)
+      -- one OFDM symbol more
+      pub sent-more : Scheme scheme → {is' : List ℤ} → Behind level scheme (drop (sumOf scheme * m) fed) m is is' → Sent level scheme fed (m + 1) is₀ is'
+      sent-more good e' =
+          let start : take (256 * m) is ≡ front = rw (e, take-at front (drop (256 * m) is₀) (256 * m) front-long) in
+          let up : 256 * m + 256 ≡ 256 * (m + 1) = omega arith in
+          let rest : drop (256 * m + 256) is ≡ drop (256 * (m + 1)) is₀
+          = rw (sym (drop-drop 256 (256 * m) is), e, drop-at front (drop (256 * m) is₀) (256 * m) front-long, drop-drop 256 (256 * m) is₀, up) in
+          e' ∙ rw (start, rest, placed-more good, append-assoc)
 
-    pub part-whole : length (take (blockBytes mode) (drop at frame)) ≡ blockBytes mode
-    part-whole = length-take-le (blockBytes mode) (drop at frame) (rw (length-drop at frame) (omega (arith, block-there)))
+-- the bits sent for a frame, the last OFDM symbol filled up
+abbrev pub fedOf : ℕ → List ℕ → List ℕ → List ℕ
+fedOf mode frame scheme = filledUp (sumOf scheme * symbolsFor mode (length frame) scheme) (codedB mode frame)
 
-    module _ {block : List ℕ} (made : block ≡ blockOf mode (scrambledFrom register (bitsOf (take (blockBytes mode) (drop at frame))))) where
-      pub block-long : length block ≡ blockBits mode
-      block-long = rw made (length-block mode register (take (blockBytes mode) (drop at frame)) part-whole)
-
-      -- it stands behind those before it
-      coded-front : codedB mode (take (at + blockBytes mode) frame) ≡ codedB mode (take at frame) ++ block
-      coded-front =
-          rw (take-add at (blockBytes mode) frame, made)
-          (coded-more mode (blocksIn mode at) (take at frame) front-whole register (rw (length-take-le at frame (p .low)) (p .carried))
-          (take (blockBytes mode) (drop at frame)) part-whole)
-
-      -- it is put in
-      pub halfway-more : {register' : ℕ} → register' ≡ registerAfter (8 * blockBytes mode) register → {s' : State} → s' .count < sumOf scheme
-          → Pushed scheme block s s' → Halfway mode frame scheme sum pending₀ is₀ qs₀ (at + blockBytes mode) register' s'
-      halfway-more e l q = record {
-        passed = p .passed;
-        low = block-there;
-        whole = add-mod-right at (blockBytes mode) ∙ p .whole;
-        carried = e ∙ ap (registerAfter (8 * blockBytes mode)) (p .carried) ∙ sym (register-more (8 * at) (8 * blockBytes mode) start)
-            ∙ ap (λ (n : ℕ). registerAfter n start) (omega arith);
-        long = q .long .0 ∙ p .long;
-        partial = l;
-        pushed = rw coded-front (pushed-more (p .pushed) q);
-      }
-
-  -- ---- all blocks
-
-  module _ (end : length frame ≤ at) where
-    pub all-there : at ≡ length frame
-    all-there = omega (arith, p .low)
-
-    -- all is sent, the last OFDM symbol filled up
-    pub all-sent : {pending : List ℕ} {is qs : List ℤ} → Flushed scheme s pending is qs
-        → AllSent levelI mode frame scheme is₀ is × AllSent levelQ mode frame scheme qs₀ qs
-    unfolding sentB pointsB
-    all-sent f =
-        let coded = codedB mode frame in
-        let m = f .going .symbol in
-        let fed = rw (take-all at frame end) at (p .pushed .onward [] is₀ qs₀ (underway-none scheme pending₀ is₀ qs₀)) in
-        let u = f .pushed .onward coded is₀ qs₀ fed in
-        let whole : sumOf scheme * m ≡ length coded + f .zeros
-        = omega (arith, u .counted, f .none, length-append coded (replicate (f .zeros) 0), length-replicate {A = ℕ} (f .zeros) 0) in
-        let long = length-codedB mode (blocksIn mode (length frame)) frame frame-whole in
-        let symbols : symbolsFor mode (length frame) scheme ≡ m = div-eq-of-lt-le (sumOf scheme) (omega (arith, f .few)) (omega (arith, f .few)) in
-        let left : sumOf scheme * m - length coded ≡ f .zeros = omega arith in
-        (rw (symbols, left) (u .sent-i), rw (symbols, left) (u .sent-q))
+-- all of them
+pub all-sent : (level : Point → ℤ) (mode : ℕ) (frame scheme : List ℕ) (is₀ : List ℤ) {is : List ℤ}
+    → Sent level scheme (fedOf mode frame scheme) (symbolsFor mode (length frame) scheme) is₀ is → AllSent level mode frame scheme is₀ is
+unfolding sentB pointsB
+all-sent level mode frame scheme is₀ e = e

@@ -1,11 +1,9 @@
 // Sends Payload B of HiNoC (ITU-T J.195.2, clause 7.5, as document 01 reads it): a frame to as many as 256 OFDM symbols.
 //
-//   symbol   one OFDM symbol, by the scheme
 //   sender   one frame, whose checks pass
 ghost use Rattle.payload_b.specs.PromiseB.{SendingB};
 
 mod sender;
-mod symbol;
 
 use answers::Refusal;
 use answers::Written;
@@ -26,7 +24,7 @@ pub fn send_b(mode: u8, frame: &[u8], scheme: &[u8], i: &mut [i16], q: &mut [i16
             if !grid::room(SUB_CARRIERS * plan.symbols, i, q) {
                 return Written::Refused(Refusal::NoRoom);
             }
-            sender::send(mode, frame, scheme, plan.sum, i, q);
+            sender::send(mode, frame, scheme, plan, i, q);
             Written::Accepted
         }
     }

@@ -3,4 +3,17 @@ pub mod Placement
 pub mod Indices
 pub mod Readings
 pub mod Placings
+pub mod Halves
 pub mod Rooms
+pub mod Schemes
+pub mod Mapping
+pub mod Labelled
+pub mod Ors
+pub mod Faults
+pub mod Looks
+pub mod ReadBits
+pub mod Fronts
+pub mod Joins
+pub mod Growth
+pub mod Spreads
+pub mod Writings

@@ -22,7 +22,7 @@ use Rattle.symbols.proofs.Readings.{length-received, received-at, none-
 
 -- ---- one OFDM symbol
 
-length-levels : (levels : List ℤ) (k n : ℕ) → length (levelsFrom levels k n) ≡ n
+pub length-levels : (levels : List ℤ) (k n : ℕ) → length (levelsFrom levels k n) ≡ n
 unfolding levelsFrom
 length-levels levels k zero = refl
 length-levels levels k (suc n) = ap suc (length-levels levels (suc k) n)
@@ -36,14 +36,14 @@ pub levels-there : (levels out : List ℤ) {after : List ℤ} → after ≡ leve
 unfolding spread
 levels-there levels out {after} there e = rw e at there
 
-levels-at : (levels : List ℤ) (k n i : ℕ) → i < n → getD (levelsFrom levels k n) i (pos 0) ≡ levelOn levels (carrierAt (k + i))
+pub levels-at : (levels : List ℤ) (k n i : ℕ) → i < n → getD (levelsFrom levels k n) i (pos 0) ≡ levelOn levels (carrierAt (k + i))
 unfolding levelsFrom
 levels-at levels k zero i h = absurd (omega arith)
 levels-at levels k (suc n) zero h = ap (λ (j : ℕ). levelOn levels (carrierAt j)) (omega arith)
 levels-at levels k (suc n) (suc i) h =
     levels-at levels (suc k) n i (omega arith) ∙ ap (λ (j : ℕ). levelOn levels (carrierAt j)) (omega arith)
 
-spread-at : (levels : List ℤ) (k : ℕ) → k < 256 → getD (spread levels) k (pos 0) ≡ levelOn levels (carrierAt k)
+pub spread-at : (levels : List ℤ) (k : ℕ) → k < 256 → getD (spread levels) k (pos 0) ≡ levelOn levels (carrierAt k)
 unfolding spread
 spread-at levels k h = levels-at levels 0 256 k h ∙ ap (λ (j : ℕ). levelOn levels (carrierAt j)) (omega arith)
 

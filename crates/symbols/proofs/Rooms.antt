@@ -10,7 +10,7 @@ use lib.IntN.{ℤ}
 use lib.ListN.{length}
 use Rattle.symbols.specs.Grids.{room}
 
-both-true : (a b : Bool) → true ≡ a && b → (a ≡ true) × (b ≡ true)
+pub both-true : (a b : Bool) → true ≡ a && b → (a ≡ true) × (b ≡ true)
 both-true true b e = (refl, sym e)
 both-true false b e = absurd (true≢false e)
 

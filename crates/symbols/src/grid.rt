@@ -2,9 +2,9 @@
 ghost use mathlib.Core.Path.{_≡_};
 ghost use Prim.Native.Nat.{_%_};
 ghost use lib.IntN.{pos};
-ghost use lib.ListN.{length, getD};
+ghost use lib.ListN.{length, getD, replicate};
 ghost use Rattle.points.specs.Constellations.{same};
-ghost use Rattle.symbols.specs.Grid.{subCarriers, carrierAt, carrierOf};
+ghost use Rattle.symbols.specs.Grid.{subCarriers, symbolPoints, carrierAt, carrierOf};
 ghost use Rattle.symbols.specs.Grids.{levelOn, levelsFrom, indexOf, occupied, firstOccupied, room};
 use crate::Carrier;
 
@@ -68,9 +68,58 @@ fn level_on(levels: &[i16], k: usize) -> i16
 pub fn put_levels(levels: &[i16], out: &mut [i16])
     ensures { λ _. ⌜ now (out .exit) ≡ levelsFrom (now (levels .entry)) 0 (length (now (out .entry))) ⌝ }
 {
+    if out.len() != SUB_CARRIERS {
+        put_each(levels, out);
+        return;
+    }
+    if levels.len() != POINTS {
+        put_each(levels, out);
+        return;
+    }
+    put_symbol(levels, out);
+}
+
+// The same, level after level.
+fn put_each(levels: &[i16], out: &mut [i16])
+    ensures { λ _. ⌜ now (out .exit) ≡ levelsFrom (now (levels .entry)) 0 (length (now (out .entry))) ⌝ }
+{
     let mut k: usize = 0;
     while k < out.len() {
         out[k] = level_on(levels, k);
+        k += 1;
+    }
+}
+
+// The same for 210 levels and 256 places, by parts: each half of the levels stands together, and zeros before it.
+fn put_symbol(levels: &[i16], out: &mut [i16])
+    requires { ⌜ (length (now levels) ≡ symbolPoints) × (length (now out) ≡ subCarriers) ⌝ }
+    ensures { λ _. ⌜ now (out .exit) ≡ levelsFrom (now (levels .entry)) 0 (length (now (out .entry))) ⌝ }
+{
+    clear(&mut out[0..1]);
+    copy(&levels[105..210], &mut out[1..106]);
+    clear(&mut out[106..151]);
+    copy(&levels[0..105], &mut out[151..256]);
+}
+
+// Copies levels.
+fn copy(levels: &[i16], out: &mut [i16])
+    requires { ⌜ length (now levels) ≡ length (now out) ⌝ }
+    ensures { λ _. ⌜ now (out .exit) ≡ now (levels .entry) ⌝ }
+{
+    let mut k: usize = 0;
+    while k < out.len() {
+        out[k] = levels[k];
+        k += 1;
+    }
+}
+
+// Makes each level zero.
+pub(crate) fn clear(out: &mut [i16])
+    ensures { λ _. ⌜ now (out .exit) ≡ replicate (length (now (out .entry))) (pos 0) ⌝ }
+{
+    let mut k: usize = 0;
+    while k < out.len() {
+        out[k] = 0;
         k += 1;
     }
 }

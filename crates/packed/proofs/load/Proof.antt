@@ -1,6 +1,7 @@
 -- `packed::load` meets its contract: elements moved to their places are side by side.
 -- Assumes nothing.
-use mathlib.Core.Path.{_∙_}
+use mathlib.Core.Path.{ap, _∙_}
+use Rattle.packed.specs.Sides.{beside}
 use Rattle.packed.proofs.Sides.{eight-moved}
 use Rattle.packed.proofs.Runs.{eight-loaded}
 use borrow.Author.Needs.{needs}
@@ -88,7 +89,8 @@ returns c =
     let h = c .before .before .wide7 .ensures in
     let k = c .wide8 .ensures in
     eight-moved _ _ _ _ _ _ _ _ (a .1) (b .1) (d .1) (e .1) (f .1) (g .1) (h .1) (k .1)
-    ∙ eight-loaded (start .args .word .now) (start .args .i) (start .pre) _ _ _ _ _ _ _ _ (a .0) (b .0) (d .0) (e .0) (f .0) (g .0) (h .0) (k .0)
+    ∙ ap beside
+    (eight-loaded (start .args .word .now) (start .args .i) (start .pre) _ _ _ _ _ _ _ _ (a .0) (b .0) (d .0) (e .0) (f .0) (g .0) (h .0) (k .0))
 
 pub load-spec : {M : Type 1} → statement M
 load-spec =

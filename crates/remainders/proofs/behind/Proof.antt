@@ -1,11 +1,12 @@
 -- `remainders::behind` meets its contract: three times 64 digits, each across two machine words.
 -- Assumes nothing.
-use mathlib.Core.Path.{sym, ap₂, _∙_}
-use Prim.Native.Nat.{ℕ, _/_, _%_}
+use mathlib.Core.Path.{sym, _∙_}
+use Prim.Native.Nat.{_/_}
 use native.Mathlib.Omega.{arith}
 use borrow.Author.Needs.{needs}
 use lib.Seq.{getD-take}
-use Rattle.remainders.proofs.Windows.{acrossOf, window, window-none}
+use Rattle.packed.proofs.Windows.{across-known}
+use Rattle.remainders.proofs.Windows.{window, window-none}
 use Rattle.remainders.proofs.behind.Statement.{statement}
 use Rattle.remainders.proofs.behind.Tie as tie
 
@@ -20,14 +21,13 @@ returns-2 c =
     let w1 = w2 .before in
     let ws = w1 .before .before .args .words .now in
     let at = w1 .before .before .args .at in
-    let p = at % 64 in
     let at0 = sym (getD-take 8 ws (at / 64) 0 (omega arith)) in
     let at1 = w1 .machine-word-at .ensures in
     let at2 = w2 .machine-word-at2 .ensures in
     let at3 = c .before .machine-word-at3 .ensures in
     window ws at (first .across .result) (second .across2 .result) (c .across3 .result) (omega arith) (omega arith) (omega arith) (omega arith)
-    (first .across .ensures ∙ ap₂ (λ (a b : ℕ). acrossOf a b p) at0 at1) (second .across2 .ensures ∙ ap₂ (λ (a b : ℕ). acrossOf a b p) at1 at2)
-    (c .across3 .ensures ∙ ap₂ (λ (a b : ℕ). acrossOf a b p) at2 at3)
+    (first .across .ensures ∙ across-known at at0 at1) (second .across2 .ensures ∙ across-known at at1 at2)
+    (c .across3 .ensures ∙ across-known at at2 at3)
 
 pub behind-spec : {M : Type 1} → statement M
 behind-spec =

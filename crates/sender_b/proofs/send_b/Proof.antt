@@ -74,7 +74,7 @@ send-requires c κs =
     let r = e .before in
     let t = told (r .before .before .before) in
     let room = room-both _ (start r .args .i .now) (start r .args .q .now) (sym (not-false _ (e .if1 .left)) ∙ room-is r) in
-    record { plan = t .0; summed = ap (λ (p : Plan). p .sum) (t .1); room = room }
+    record { sendable = t .0; planned = t .1; room = room }
 
 returns-2 : tie.Need-returns-2
 returns-2 c =

@@ -8,7 +8,7 @@ use borrow.Author.Tests.{lt-ltb, le-ltb}
 use lib.Dec.{ltb}
 use lib.ListN.{length, getD}
 use Rattle.ground.proofs.Firsts.{first-here, first-later, first-end}
-use Rattle.payload_b.specs.PromiseB.{badEntry}
+use Rattle.symbols.specs.Schemes.{badEntry}
 use borrow.Author.Needs.{needs}
 use Rattle.payload_b.proofs.plan.bad_entry.Statement.{statement}
 use Rattle.payload_b.proofs.plan.bad_entry.Tie as tie

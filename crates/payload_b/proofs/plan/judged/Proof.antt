@@ -5,9 +5,9 @@ use Prim.Native.Nat.{ℕ, min, _+_, _-_, _*_, _/_, _%_, _≤_}
 use native.Mathlib.Omega.{arith}
 use native.Mathlib.Nat.{min-le-left, min-eq-left}
 use Rattle.answers.specs.Checks.{fails}
-use Rattle.payload_b.specs.CodedB.{blockBytes, blockBits, blocksIn, sumOf, symbolsFor}
-use Rattle.payload_b.specs.PlanB.{Scheme}
-use Rattle.payload_b.proofs.Schemes.{bad-most, sum-whole, sum-least, sum-most}
+use Rattle.payload_b.specs.CodedB.{blockBytes, blockBits, blocksIn, symbolsFor}
+use Rattle.symbols.specs.Schemes.{sumOf, Scheme}
+use Rattle.symbols.proofs.Schemes.{bad-most, sum-whole, sum-least, sum-most}
 use Rattle.payload_b.proofs.Blocks.{block-bytes-pos}
 use Rattle.payload_b.proofs.Plans.{mode-unknown, none-sent, not-whole, other-length, some-bad, too-many}
 use borrow.Author.Needs.{needs}

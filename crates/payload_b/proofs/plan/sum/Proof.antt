@@ -6,8 +6,8 @@ use native.Mathlib.Omega.{arith}
 use native.Mathlib.Numerals.{add-one}
 use lib.ListN.{length, take}
 use lib.Seq.{take-all}
-use Rattle.payload_b.specs.CodedB.{sumOf}
-use Rattle.payload_b.proofs.Schemes.{sum-nil, sum-snoc}
+use Rattle.symbols.specs.Schemes.{sumOf}
+use Rattle.symbols.proofs.Schemes.{sum-nil, sum-snoc}
 use borrow.Author.Needs.{needs}
 use Rattle.payload_b.proofs.plan.sum.Statement.{statement}
 use Rattle.payload_b.proofs.plan.sum.Tie as tie

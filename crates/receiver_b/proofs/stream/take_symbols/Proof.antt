@@ -4,19 +4,21 @@ use mathlib.Core.Path.{_≡_}
 use Prim.Native.Nat.{_+_, _-_, _*_, _≤_}
 use native.Mathlib.Omega.{arith}
 use borrow.Rule.Slice.PartMut.{mid-len}
+use Rattle.packed.specs.Packed.{bits512}
 use Rattle.receiver_b.specs.Steps.{TakesIn}
-use Rattle.receiver_b.proofs.Receiving.{bitsOfSymbols, symbol-none, symbol-part}
+use Rattle.receiver_b.proofs.Receiving.{bitsRead, symbol-none, symbol-part}
 use Rattle.receiver_b.proofs.Taking.{goes-nowhere, goes-on}
 use borrow.Author.Needs.{needs}
 use Rattle.receiver_b.proofs.stream.take_symbols.Statement.{statement}
 use Rattle.receiver_b.proofs.stream.take_symbols.Tie as tie
 
 abbrev Inv-loop : tie.InvT-loop
-Inv-loop cells quadrants scheme mode plan i q area₀ state₀ s₀ area state s =
-    (s ≤ plan .symbols) × TakesIn mode (plan .blocks) (bitsOfSymbols scheme i q s) area₀ (state₀ .block) (state₀ .tally) area (state .block) (state .tally)
+Inv-loop quadrants scheme mode plan i q area₀ state₀ s₀ area state s =
+    (s ≤ plan .symbols)
+    × TakesIn mode (plan .blocks) (bitsRead quadrants scheme i q s) area₀ (bits512 (state₀ .block)) (state₀ .tally) area (bits512 (state .block)) (state .tally)
 
 abbrev μ-loop : tie.MeasureT-loop
-μ-loop cells quadrants scheme mode plan i q area₀ state₀ s₀ area state s = plan .symbols - s
+μ-loop quadrants scheme mode plan i q area₀ state₀ s₀ area state s = plan .symbols - s
 
 abbrev first : tie.At-loop Inv-loop μ-loop → tie.Start Inv-loop μ-loop
 first c = c .before .before .before
@@ -24,7 +26,7 @@ first c = c .before .before .before
 loop-holds : tie.Need-loop-holds Inv-loop μ-loop
 loop-holds c =
     let s = c .before .before in
-    (omega arith, rw (symbol-none (s .args .scheme .now) (s .args .i .now) (s .args .q .now)) (goes-nowhere (s .pre .sane)))
+    (omega arith, rw (symbol-none (s .args .quadrants .now) (s .args .scheme .now) (s .args .i .now) (s .args .q .now)) (goes-nowhere (s .pre .sane)))
 
 take-symbol-requires : tie.Need-take-symbol-requires Inv-loop μ-loop
 take-symbol-requires c κs =
@@ -33,7 +35,7 @@ take-symbol-requires c κs =
     let s = first k in
     let at = 256 * l .s in
     record {
-      lent = s .pre .lent;
+      entries = s .pre .entries;
       summed = s .pre .summed;
       known = s .pre .known;
       sane = l .inv .1 .0;
@@ -47,7 +49,7 @@ loop-again c =
     let then = c .before .before .before .before .before .before in
     let l = then .before .before .loop in
     let s = first (then .before .before) in
-    let one = symbol-part (s .args .scheme .now) (s .args .i .now) (s .args .q .now) (s .pre .lent .entries .long) (l .s) in
+    let one = symbol-part (s .args .quadrants .now) (s .args .scheme .now) (s .args .i .now) (s .args .q .now) (s .pre .entries .long) (l .s) in
     (omega (arith, then .if1 .taken), rw one (goes-on (l .inv .1 .1) (c .before .before .take-symbol .ensures)))
 
 returns : tie.Need-returns Inv-loop μ-loop

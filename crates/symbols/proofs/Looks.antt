@@ -1,0 +1,168 @@
+-- The quick look overlooks no fault: OFDM symbols that pass it have neither an occupied sub-carrier nor a stray point.
+-- Assumes nothing.
+use mathlib.Core.Path.{_≡_, refl, sym, ap, subst, _∙_}
+use mathlib.Core.Bool.{Bool, true, false, cond}
+use mathlib.Core.List.{List}
+use Prim.Native.Nat.{ℕ, suc, _+_, _-_, _*_, _/_, _%_, _≤_, _<_}
+use native.Mathlib.Decide.{decLe}
+use native.Mathlib.Omega.{arith}
+use lib.Dec.{eqb}
+use lib.IntN.{ℤ, pos, natAbs}
+use lib.ListN.{length, getD, take, drop, length-drop}
+use lib.Seq.{getD-take, getD-drop, length-take-le}
+use Rattle.ground.proofs.Firsts.{first-none}
+use Rattle.points.specs.declared.Label.the-variants.{Stray}
+use Rattle.points.specs.Constellations.{isStray}
+use Rattle.points.specs.Sizes.{mostOf, oddOf, Sized}
+use Rattle.points.proofs.Legal.{sized-legal}
+use Rattle.symbols.specs.declared.Carrier.{Carrier}
+use Rattle.symbols.specs.declared.Carrier.the-variants.{Holds, Empty}
+use Rattle.symbols.specs.Grid.{carrierAt, carrierOf}
+use Rattle.symbols.specs.Grids.{pointAt, received, indexOf, occupied, occupiedAt, firstOccupied}
+use Rattle.symbols.specs.Schemes.{Scheme, repeated, pointLabel, strayIn}
+use Rattle.symbols.specs.Quick.{Passed, PassedBy, PassedAll, PassedFrom, Table, Zeros, EmptyFrom, Looked}
+use Rattle.symbols.proofs.Placement.{carrier-low, carrier-high, carrier-of-low, carrier-of-high}
+use Rattle.symbols.proofs.Indices.{carrier-of-lt}
+use Rattle.symbols.proofs.Readings.{none-occupied}
+use Rattle.symbols.proofs.Schemes.{entry-in}
+use Rattle.symbols.proofs.Labelled.{labels, labels-long, labels-at}
+
+-- ---- parts of lists, as the code takes them
+
+part-at : {A : Type 0} (xs : List A) (from n k : ℕ) (d : A) → k < n → getD (take n (drop from xs)) k d ≡ getD xs (from + k) d
+part-at xs from n k d h = getD-take n (drop from xs) k d h ∙ getD-drop from xs k d
+
+pub part-zeros : (xs : List ℤ) (from end : ℕ) → end ≤ length xs → Zeros (take (end - from) (drop from xs)) → (k : ℕ) → from ≤ k → k < end → getD xs k (pos 0) ≡ pos 0
+part-zeros xs from end l zeros k a b =
+    let e : from + (k - from) ≡ k = omega arith in
+    let long : length (take (end - from) (drop from xs)) ≡ end - from = length-take-le (end - from) (drop from xs) (rw length-drop (omega arith)) in
+    ap (λ (j : ℕ). getD xs j (pos 0)) (sym e) ∙ sym (part-at xs from (end - from) (k - from) (pos 0) (omega arith)) ∙ zeros (k - from) (omega arith)
+
+pub part-passed : (most odd holes : List ℕ) (is qs : List ℤ) (row k : ℕ) → row + 105 ≤ length most
+    → PassedAll (take (row + 105 - row) (drop row most)) (take (row + 105 - row) (drop row odd)) (take (row + 105 - row) (drop row holes))
+    (take (k + 105 - k) (drop k is)) (take (k + 105 - k) (drop k qs))
+    → PassedFrom row k most odd holes is qs
+part-passed most odd holes is qs row k l all s h =
+    let long : length (take (row + 105 - row) (drop row most)) ≡ row + 105 - row = length-take-le (row + 105 - row) (drop row most) (rw length-drop (omega arith)) in
+    let n : s < row + 105 - row = omega arith in
+    let m : s < k + 105 - k = omega arith in
+    rw (part-at most row _ s 0 n, part-at odd row _ s 0 n, part-at holes row _ s 0 n, part-at is k _ s (pos 0) m, part-at qs k _ s (pos 0) m) at (all s (omega arith))
+
+-- ---- one OFDM symbol
+
+-- the sub-carriers from 1 to 105 and from 151 to 255 hold points
+unlike : {s : ℕ} {A : Type 0} → Holds s ≡ Empty → A
+unlike e = absurd (let z : _≡_ {A = ℕ} 0 1 = cc in omega arith)
+
+module _ (is qs : List ℤ) (first : EmptyFrom 0 1 is qs) (middle : EmptyFrom 106 151 is qs) where
+  pub all-empty : (k : ℕ) → k < 256 → carrierAt k ≡ Empty → (getD is k (pos 0) ≡ pos 0) × (getD qs k (pos 0) ≡ pos 0)
+  all-empty k h e = by (decLe 1 k) (decLe 106 k) (decLe 151 k)
+    where
+      by : Dec (1 ≤ k) → Dec (106 ≤ k) → Dec (151 ≤ k) → (getD is k (pos 0) ≡ pos 0) × (getD qs k (pos 0) ≡ pos 0)
+      by (no a) b c = first k (omega arith) (omega arith)
+      by (yes a) (no b) c = unlike (sym (carrier-low k a (omega arith)) ∙ e)
+      by (yes a) (yes b) (no c) = middle k b (omega arith)
+      by (yes a) (yes b) (yes c) = unlike (sym (carrier-high k c (omega arith)) ∙ e)
+
+module _ (most odd holes : List ℕ) (is qs : List ℤ) (high : PassedFrom 0 151 most odd holes is qs) (low : PassedFrom 105 1 most odd holes is qs) where
+  abbrev HeldAt : ℕ → ℕ → Type 0
+  HeldAt s k = PassedBy most odd holes s (getD is k (pos 0)) (getD qs k (pos 0))
+
+  pub all-held : (s : ℕ) → s < 210 → HeldAt s (carrierOf (suc s))
+  all-held s h = by (decLe 105 s)
+    where
+      by : Dec (105 ≤ s) → HeldAt s (carrierOf (suc s))
+      by (no l) =
+          let row : 0 + s ≡ s = omega arith in
+          let k : 151 + s ≡ carrierOf (suc s) = omega (arith, carrier-of-low (suc s) (omega arith) (omega arith)) in
+          subst (λ (t : ℕ). HeldAt s t) k (subst (λ (t : ℕ). HeldAt t (151 + s)) row (high s (omega arith)))
+      by (yes l) =
+          let row : 105 + (s - 105) ≡ s = omega arith in
+          let k : 1 + (s - 105) ≡ carrierOf (suc s) = omega (arith, carrier-of-high (suc s) (omega arith) (omega arith)) in
+          subst (λ (t : ℕ). HeldAt s t) k (subst (λ (t : ℕ). HeldAt t (1 + (s - 105))) row (low (s - 105) (omega arith)))
+
+-- ---- OFDM symbols
+
+cond-two : (b : Bool) → cond b 0 1 % 2 ≡ cond b 0 1
+cond-two true = refl
+cond-two false = refl
+
+odd-two : (n : ℕ) → oddOf n % 2 ≡ oddOf n
+unfolding oddOf
+odd-two n = cond-two (eqb n 3)
+
+-- what passes by the tables of n bits is a point of n bits
+sized-passed : (n most odd holes : ℕ) (i q : ℤ) → n ≤ 10 → most ≡ mostOf n → odd ≡ oddOf n → holes ≡ n % 2 → Passed most odd holes (natAbs i) (natAbs q) → Sized n i q
+sized-passed n most odd holes i q few m o h p = record {
+  few = few;
+  low-i = omega (arith, p .low-e, m);
+  low-q = omega (arith, p .low-f, m);
+  odd-i = p .odd-e ∙ ap (λ (x : ℕ). x % 2) o ∙ odd-two n;
+  odd-q = p .odd-f ∙ ap (λ (x : ℕ). x % 2) o ∙ odd-two n;
+  no-hole = λ one e f. omega (arith, p .no-hole e f);
+}
+
+-- nothing is wrong with the first k OFDM symbols
+pub record Clean (scheme : List ℕ) (is qs : List ℤ) (k : ℕ) : Type 0 where
+  pub free : (x : ℕ) → x < 256 * k → occupiedAt is qs x ≡ false
+  pub legal : (place : ℕ) → place < 210 * k → isStray (pointLabel (getD scheme (place % 210) 0) (pointAt is qs (indexOf place))) ≡ false
+
+pub clean-none : (scheme : List ℕ) (is qs : List ℤ) → Clean scheme is qs 0
+clean-none scheme is qs = record { free = λ x h. absurd (omega arith); legal = λ place h. absurd (omega arith) }
+
+-- one OFDM symbol more that passes
+module _ {scheme : List ℕ} (good : Scheme scheme) {most odd holes : List ℕ}
+    (of-most : Table mostOf scheme most 210) (of-odd : Table oddOf scheme odd 210) (of-holes : Table (λ n. n % 2) scheme holes 210)
+    (is qs : List ℤ) (k : ℕ) (look : Looked most odd holes (take (256 * k + 256 - 256 * k) (drop (256 * k) is)) (take (256 * k + 256 - 256 * k) (drop (256 * k) qs))) where
+  -- a level of it, in the whole list
+  level-in : (xs : List ℤ) (j : ℕ) → j < 256 → getD (take (256 * k + 256 - 256 * k) (drop (256 * k) xs)) j (pos 0) ≡ getD xs (256 * k + j) (pos 0)
+  level-in xs j h = part-at xs (256 * k) (256 * k + 256 - 256 * k) j (pos 0) (omega arith)
+
+  free-here : (j : ℕ) → j < 256 → occupiedAt is qs (256 * k + j) ≡ false
+  free-here j h =
+      let r : (256 * k + j) % 256 ≡ j = omega arith in
+      rw r (by (carrierAt j) refl)
+    where
+      by : (c : Carrier) → carrierAt j ≡ c → occupied c (getD is (256 * k + j) (pos 0)) (getD qs (256 * k + j) (pos 0)) ≡ false
+      by (Holds s) e = refl
+      by Empty e =
+          let z = look .empty j h e in
+          rw (sym (level-in is j h) ∙ z .0, sym (level-in qs j h) ∙ z .1)
+
+  legal-here : (s : ℕ) → s < 210 → isStray (pointLabel (getD scheme ((210 * k + s) % 210) 0) (pointAt is qs (indexOf (210 * k + s)))) ≡ false
+  unfolding indexOf
+  legal-here s h =
+      let r : (210 * k + s) % 210 ≡ s = omega arith in
+      let d : (210 * k + s) / 210 ≡ k = omega arith in
+      let c = carrierOf (suc s) in
+      let i = level-in is c (carrier-of-lt (suc s)) in
+      let q = level-in qs c (carrier-of-lt (suc s)) in
+      let n = getD scheme s 0 in
+      let p = sized-passed n _ _ _ _ _ (entry-in good s h .1) (of-most s h) (of-odd s h) (of-holes s h) (look .held s h) in
+      rw (r, d, sym i, sym q) (sized-legal n _ _ p)
+
+  pub clean-more : Clean scheme is qs k → Clean scheme is qs (k + 1)
+  clean-more c = record { free = λ x h. free-at x h (decLe (256 * k) x); legal = λ place h. legal-at place h (decLe (210 * k) place) }
+    where
+      free-at : (x : ℕ) → x < 256 * (k + 1) → Dec (256 * k ≤ x) → occupiedAt is qs x ≡ false
+      free-at x h (no l) = c .free x (omega arith)
+      free-at x h (yes l) =
+          let e : 256 * k + (x - 256 * k) ≡ x = omega arith in
+          subst (λ (y : ℕ). occupiedAt is qs y ≡ false) e (free-here (x - 256 * k) (omega arith))
+
+      legal-at : (place : ℕ) → place < 210 * (k + 1) → Dec (210 * k ≤ place)
+          → isStray (pointLabel (getD scheme (place % 210) 0) (pointAt is qs (indexOf place))) ≡ false
+      legal-at place h (no l) = c .legal place (omega arith)
+      legal-at place h (yes l) =
+          let e : 210 * k + (place - 210 * k) ≡ place = omega arith in
+          subst (λ (y : ℕ). isStray (pointLabel (getD scheme (y % 210) 0) (pointAt is qs (indexOf y))) ≡ false) e (legal-here (place - 210 * k) (omega arith))
+
+-- all m
+pub clean-all : {scheme : List ℕ} → Scheme scheme → (m : ℕ) (is qs : List ℤ) → Clean scheme is qs m
+    → (firstOccupied is qs 0 (256 * m) ≡ 256 * m) × (strayIn (repeated m scheme) (received m is qs) ≡ 210 * m)
+clean-all good m is qs c = (
+  none-occupied is qs 0 (256 * m) (λ j a h. c .free j (omega arith)),
+  first-none isStray Stray (labels good m is qs) (λ place h.
+      let l : place < 210 * m = omega (arith, labels-long good m is qs) in
+      ap isStray (labels-at good m is qs place l) ∙ c .legal place l) ∙ labels-long good m is qs,
+)
