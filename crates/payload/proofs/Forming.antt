@@ -100,9 +100,12 @@ scrambled-sum r [] = refl
 scrambled-sum r (b ∷ bs) =
     ap₂ _∷_ (xor-comm (formed r) b ∙ ap (bitXor b) (sym (xor-zero-r (formed r)))) (scrambled-sum (shifted r) bs)
 
+-- added one by one, and all at once where they are digits too
+pub scrambled-each : (n : ℕ) (bs : List ℕ) (k r : ℕ) → length bs ≡ n → digits n k ≡ formedFrom r n → zipWith bitXor bs (digits n k) ≡ scrambledFrom r bs
+scrambled-each n bs k r long e = ap (zipWith bitXor bs) (e ∙ ap (formedFrom r) (sym long)) ∙ sym (scrambled-sum r bs)
+
 pub scrambled-by : (n x k r : ℕ) → digits n k ≡ formedFrom r n → digits n (bitXor x k) ≡ scrambledFrom r (digits n x)
-scrambled-by n x k r e =
-    digits-xor n x k ∙ ap (zipWith bitXor (digits n x)) (e ∙ ap (formedFrom r) (sym (length-digits n x))) ∙ sym (scrambled-sum r (digits n x))
+scrambled-by n x k r e = digits-xor n x k ∙ scrambled-each n (digits n x) k r (length-digits n x) e
 
 -- ---- the register
 

@@ -1,6 +1,8 @@
 // The scrambler of clause 6.2: a register of 15 digits, stage 15 the highest.
 ghost use mathlib.Core.Path.{_≡_};
+ghost use mathlib.Core.List.{zipWith};
 ghost use Prim.Native.Nat.{_+_, _*_, _%_, _≤_, _<_};
+ghost use lib.Bits.{bitXor};
 ghost use lib.ListN.{length, take, drop, replicate};
 ghost use Rattle.bits.specs.Words.{digits};
 ghost use Rattle.bits.specs.Bytes.{bitsOf};
@@ -30,12 +32,32 @@ pub fn scramble(register: u16, bits: &mut [u8]) -> u16
 {
     let mut s = register;
     let mut i: usize = 0;
+    while i + 8 <= bits.len() {
+        add_eight(form8(s) as u8, &mut bits[i..i + 8]);
+        s = shift8(s);
+        i += 8;
+    }
     while i < bits.len() {
         bits[i] = (form(s) as u8) ^ bits[i];
         s = shift(s);
         i += 1;
     }
     s
+}
+
+// Adds the digits of key to eight elements.
+fn add_eight(key: u8, bits: &mut [u8])
+    requires { ⌜ length (now bits) ≡ 8 ⌝ }
+    ensures { λ _. ⌜ now (bits .exit) ≡ zipWith bitXor (now (bits .entry)) (digits 8 key) ⌝ }
+{
+    bits[0] = bits[0] ^ key / 128;
+    bits[1] = bits[1] ^ key / 64 % 2;
+    bits[2] = bits[2] ^ key / 32 % 2;
+    bits[3] = bits[3] ^ key / 16 % 2;
+    bits[4] = bits[4] ^ key / 8 % 2;
+    bits[5] = bits[5] ^ key / 4 % 2;
+    bits[6] = bits[6] ^ key / 2 % 2;
+    bits[7] = bits[7] ^ key % 2;
 }
 
 // 64 bits scrambled, and the register after them.
