@@ -9,7 +9,7 @@ use Rattle.algebra.proofs.Fields.{Field2, ring}
 use Rattle.field.proofs.Elements.{GF512, element-of}
 use Rattle.field.proofs.Values.{a}
 use Rattle.planes.specs.Lanes.{bitOf, laneOf, laneBit, PlusWhere, Summed, TimesA, Throughout}
-use Rattle.planes.specs.Lanes.{valueOf, restAt, DigitTaken, LowsTaken, Begun, rowAt, Highs, Quadratic, RowOf}
+use Rattle.planes.specs.Lanes.{valueOf, restAt, DigitTaken, LowsTaken, Begun, rowAt, Highs, Quadratic}
 use Rattle.planes.specs.declared.Planes.{Planes}
 use Rattle.planes.specs.declared.Trio.{Trio}
 use Rattle.planes.specs.declared.Affine.{Affine}
@@ -153,9 +153,3 @@ start-law c d e t hc hd he l x h = rw (hc l h, hd l h, he l h)
 pub quadratic-law : (c d e : ℕ) (t u : Trio) (r : Affine) → Begun c d e t → LowsTaken t u → Highs u r → Quadratic c d e r
 unfolding Begun LowsTaken Highs Quadratic
 quadratic-law c d e t u r b h k w l hw hl = k w l hw ∙ h w l hw hl ∙ b l _ hl
-
-pub row-law : (t : Affine) (w y6 y7 y8 : ℕ) (v6 v7 r : Planes) → ((l : ℕ) → l < 64 → bitOf y6 l ≡ w % 2) → PlusWhere (t .low) (t .six) y6 v6
-    → ((l : ℕ) → l < 64 → bitOf y7 l ≡ w / 2 % 2) → PlusWhere v6 (t .seven) y7 v7 → ((l : ℕ) → l < 64 → bitOf y8 l ≡ w / 4 % 2)
-    → PlusWhere v7 (t .eight) y8 r → RowOf t w r
-unfolding PlusWhere RowOf rowAt laneBit
-row-law t w y6 y7 y8 v6 v7 r b6 h6 b7 h7 b8 h8 l h = rw (h8 l, h7 l, h6 l, b6 l h, b7 l h, b8 l h)

@@ -100,7 +100,3 @@ Highs t r = (w l : ℕ) → w < 8 → rowAt r w l ≡ restAt t l (element-of w)
 -- in lane l of row w stands c + d x + e x^2 at the element x = 64 w + l
 unfoldable pub Quadratic : ℕ → ℕ → ℕ → Affine → Type 0
 Quadratic c d e r = (w l : ℕ) → w < 8 → l < 64 → rowAt r w l ≡ valueOf (element-of c) (element-of d) (element-of e) (element-of (64 * w + l))
-
--- r is row w
-unfoldable pub RowOf : Affine → ℕ → Planes → Type 0
-RowOf t w r = (l : ℕ) → l < 64 → laneOf r l ≡ rowAt t w l

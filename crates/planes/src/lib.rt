@@ -4,7 +4,7 @@
 ghost use Prim.Native.Nat.{ℕ, _%_, _<_};
 ghost use mathlib.Core.Path.{_≡_};
 ghost use Rattle.planes.specs.Lanes.{bitOf, Stepped, PlusWhere, Summed, Multiplied, TimesA, Throughout, OnlyWhere, Vanishing};
-ghost use Rattle.planes.specs.Lanes.{DigitTaken, LowsTaken, Begun, Highs, Quadratic, RowOf};
+ghost use Rattle.planes.specs.Lanes.{DigitTaken, LowsTaken, Begun, Highs, Quadratic};
 
 pub struct Planes {
     pub p0: u64,
@@ -241,13 +241,4 @@ pub fn quadratic(c: u16, d: u16, e: u16) -> Affine
     ensures { λ r. ⌜ Quadratic c d e r ⌝ }
 {
     highs(lows(start(c, d, e)))
-}
-
-// The planes of row w, which counts modulo 8: its lane l is for the element 64 w + l.
-pub fn row(t: Affine, w: u64) -> Planes
-    ensures { λ r. ⌜ RowOf t w r ⌝ }
-{
-    let v6 = plus(t.low, t.six, all(w));
-    let v7 = plus(v6, t.seven, all(w / 2));
-    plus(v7, t.eight, all(w / 4))
 }

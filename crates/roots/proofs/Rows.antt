@@ -3,16 +3,16 @@
 use mathlib.Core.Path.{_≡_, refl, ap, ap₂, _∙_}
 use mathlib.Core.Logic.{_≢_}
 use mathlib.Core.List.{List, [], _∷_}
-use Prim.Native.Nat.{ℕ, zero, suc, _+_, _*_, _%_, _≤_, _<_}
-use native.Mathlib.Nat.{zero-add}
+use Prim.Native.Nat.{ℕ, zero, suc, _+_, _*_, _%_, _^_, _≤_, _<_}
+use native.Mathlib.Nat.{zero-add, zero-div}
 use native.Mathlib.Decide.{decLt}
 use native.Mathlib.Omega.{arith}
 use lib.Dec.{T, ltb, ltb→lt, lit<}
-use lib.ListN.{length, getD, set, length-set}
+use lib.ListN.{length, getD, set, replicate, length-set}
 use lib.Seq.{getD-set-same, getD-set-other}
 use Rattle.algebra.proofs.Fields.{Field2, ring}
 use Rattle.field.proofs.Elements.{GF512, element-of, of-0, of-1}
-use Rattle.planes.specs.Lanes.{laneOf, rowAt, Summed, Multiplied, Vanishing}
+use Rattle.planes.specs.Lanes.{bitOf, nine, numberAt, laneOf, rowAt, Summed, Multiplied, Vanishing}
 use Rattle.roots.specs.Searches.{planesAt, rowPut, Grown, timesCube, plusRow, AddedAt, Filled, Advanced, RowsTold}
 use Rattle.planes.specs.declared.Affine.{Affine}
 use Rattle.planes.specs.declared.Planes.{Planes}
@@ -110,9 +110,6 @@ module _ (f : ℕ → ℕ → GF512 .Element) (old : List ℕ) where
       done-at w l k b (yes d) = ap (λ p. laneOf p l) (put-other new n v w h (omega arith) (omega arith)) ∙ u .done w l d b
       done-at w l k b (no d) = let same : w ≡ n = omega arith in rw same (ap (λ p. laneOf p l) (put-same new n v h (u .long)) ∙ is l b)
 
-pub filled-all : (t : Affine) (old new : List ℕ) (n : ℕ) → Upto (rowAt t) old new n → 8 ≤ n → Filled t new
-filled-all t old new n u h = record { long = u .long; each = λ w l hw hl. u .done w l (omega arith) hl }
-
 pub grown-all : (f : ℕ → ℕ → GF512 .Element) (old new : List ℕ) (n : ℕ) → Upto f old new n → 8 ≤ n → Grown f new
 grown-all f old new n u h = record { long = u .long; each = λ w l hw hl. u .done w l (omega arith) hl }
 
@@ -186,6 +183,24 @@ plus-all t v1 v2 v3 v4 v5 v6 v7 h1 h2 h3 h4 h5 h6 h7 s0 s1 s2 s3 s4 s5 s6 s7 s8 
     let u7 = plus-next t s0 s6 s7 6 7 _ u6 (lit< tt) (row-eight t v2 v6 0 1 r2 h6) a6 refl in
     let u8 = plus-next t s0 s7 s8 7 8 _ u7 (lit< tt) (row-eight t v3 v7 1 1 r3 h7) a7 refl in
     grown-all (plusRow s0 t) s0 s8 8 u8 (omega arith)
+
+-- to sums that are all 0
+none-at : (n i : ℕ) → getD {A = ℕ} (replicate n 0) i 0 ≡ 0
+none-at zero i = refl
+none-at (suc n) zero = refl
+none-at (suc n) (suc i) = none-at n i
+
+lane-none : (w l : ℕ) → laneOf (planesAt (replicate 72 0) w) l ≡ GF512 .zero
+unfolding laneOf numberAt nine bitOf planesAt
+lane-none w l =
+    let none = none-at 72 in
+    rw (none w, none (8 + w), none (16 + w), none (24 + w), none (32 + w), none (40 + w), none (48 + w), none (56 + w), none (64 + w), zero-div (2 ^ l)) of-0
+
+pub filled-none : (t : Affine) {old new : List ℕ} → old ≡ replicate 72 0 → Grown (plusRow old t) new → Filled t new
+filled-none t e g = record {
+  long = g .long;
+  each = λ w l hw hl. g .each w l hw hl ∙ ap (λ (s : List ℕ). laneOf (planesAt s w) l ⊕ rowAt t w l) e ∙ ap (λ (x : Element). x ⊕ rowAt t w l) (lane-none w l) ∙ GF512 .zero-add (rowAt t w l);
+}
 
 pub advanced-law : (cubes : List ℕ) (t : Affine) (old mid new : List ℕ) → Grown (timesCube cubes old) mid → Grown (plusRow mid t) new → Advanced cubes t old new
 advanced-law cubes t old mid new g h = record {

@@ -3,7 +3,7 @@
 // Digit b of the elements of row w stands at 8 b + w; lane l of row w stands for the element 64 w + l.
 ghost use mathlib.Core.Path.{_≡_};
 ghost use Prim.Native.Nat.{suc, _*_, _/_, _<_, min};
-ghost use lib.ListN.{length};
+ghost use lib.ListN.{length, replicate};
 ghost use Rattle.roots.specs.Searches.{planesAt, rowPut, Cubes, Grown, timesCube, plusRow, AddedAt, Filled, Advanced, RowsTold, Triple, GoneDown, Searched};
 
 mod tables;
@@ -50,18 +50,6 @@ fn cubes() -> [u64; 72]
     ensures { λ r. ⌜ Cubes r ⌝ }
 {
     tables::CUBES
-}
-
-// The sums become those of t.
-fn fill(sums: &mut [u64; 72], t: Affine)
-    requires { ⌜ length (now sums) ≡ 72 ⌝ }
-    ensures { λ _. ⌜ Filled t (now (sums .exit)) ⌝ }
-{
-    let mut w: usize = 0;
-    while w < 8 {
-        put(sums, w, planes::row(t, w as u64));
-        w += 1;
-    }
 }
 
 // The sums times x^3.
@@ -111,6 +99,14 @@ fn add_rows(sums: &mut [u64; 72], t: Affine)
     add_at(sums, 7, v7);
 }
 
+// The sums, which are all 0, become those of t.
+fn fill(sums: &mut [u64; 72], t: Affine)
+    requires { ⌜ now sums ≡ replicate 72 0 ⌝ }
+    ensures { λ _. ⌜ Filled t (now (sums .exit)) ⌝ }
+{
+    add_rows(sums, t);
+}
+
 // The sums times x^3, and what t adds.
 fn advance(sums: &mut [u64; 72], cubes: &[u64; 72], t: Affine)
     requires { ⌜ length (now sums) ≡ 72 ⌝ }
@@ -135,7 +131,7 @@ fn told(sums: &[u64; 72]) -> [u64; 8]
 
 // No sums.
 fn none() -> [u64; 72]
-    ensures { λ r. ⌜ length r ≡ 72 ⌝ }
+    ensures { λ r. ⌜ r ≡ replicate 72 0 ⌝ }
 {
     [0u64; 72]
 }
