@@ -2,7 +2,7 @@
 -- Assumes nothing.
 use mathlib.Core.Path.{_≡_, sym, ap, ap₂, _∙_}
 use mathlib.Core.List.{List, _++_}
-use Prim.Native.Nat.{ℕ, _+_, _-_, _<_, min}
+use Prim.Native.Nat.{ℕ, suc, _+_, _-_, _*_, _<_, min}
 use native.Mathlib.Omega.{arith}
 use lib.Bits.{bitXor}
 use lib.ListN.{length, take, drop, getD, set, replicate, length-drop}
@@ -20,7 +20,7 @@ use Rattle.remainders.proofs.Leftovers.{leftover-by}
 use Rattle.bch.specs.Registers.{whole, atTop}
 use Rattle.bch.specs.Held.{Sound}
 use Rattle.bch.specs.declared.code.Held.{Held}
-use Rattle.decoder.specs.Candidates.{leftover, wordOf, Clear, Ready}
+use Rattle.decoder.specs.Candidates.{leftover, wordOf, Clear, belowOf, Ready}
 use Rattle.decoder.proofs.Attempts.{Neighbour, neighbour}
 
 -- ---- zeros behind
@@ -100,9 +100,10 @@ module _ {h : Held} (sound : Sound h) (words : List ℕ) (clear : Clear h words)
 -- ---- what the table gives
 
 -- it is what is left of the word
-pub left-by : {h : Held} {table : List ℕ} → Ready h table → (words : List ℕ) → Clear h words → leftoverBy table (h .k) words ≡ leftover h (wordOf h words)
+pub left-by : {h : Held} {table : List ℕ} → Ready h table → (words : List ℕ) → Clear h words
+    → leftoverBy (take (64 * suc (belowOf h)) table) (h .k) words ≡ leftover h (wordOf h words)
 unfolding leftover
 left-by {h} {table} ready words clear =
     let sound = ready .sound in
-    leftover-by (whole (h .generator)) table words (h .k) (ready .rule) (degree-192 sound) (sound .bytes) (omega (arith, sound .rooted .order, sound .short))
+    leftover-by (whole (h .generator)) (take (64 * suc (belowOf h)) table) words (h .k) (ready .rule) (degree-192 sound) (sound .bytes) (omega (arith, sound .rooted .order, sound .short))
     ∙ ap₂ (λ (m : List ℕ) (x : ℕ). bitXor (remainder 192 (whole (h .generator)) m) x) (information-there sound words clear) (behind-left sound words clear)

@@ -4,7 +4,7 @@
 use mathlib.Core.Path.{_≡_}
 use mathlib.Core.Logic.{_⊎_}
 use mathlib.Core.List.{List, _++_}
-use Prim.Native.Nat.{ℕ, _≤_}
+use Prim.Native.Nat.{ℕ, suc, _-_, _*_, _/_, _≤_}
 use lib.Bits.{bitXor}
 use lib.ListN.{length, take, drop, replicate}
 use Rattle.bits.specs.Words.{Bits, differ}
@@ -29,10 +29,14 @@ use Rattle.decoder.specs.declared.search.Flips.{Flips}
 unfoldable pub leftover : Held → List ℕ → ℕ
 leftover h w = bitXor (remainder 192 (whole (h .generator)) (take (h .k) w)) (atTop (drop (h .k) w))
 
--- a sound code, with its table
+-- the machine words of an entry that its remainders reach into, below the highest
+abbrev pub belowOf : Held → ℕ
+belowOf h = (h .n - h .k - 1) / 64
+
+-- a sound code, with its table, of whose entries these and the highest are read
 pub record Ready (h : Held) (table : List ℕ) : Type 0 where
   pub sound : Sound h
-  pub rule : Remainders (whole (h .generator)) table
+  pub rule : Remainders (whole (h .generator)) (take (64 * suc (belowOf h)) table)
 
 -- the word that is packed: the first n bits
 unfoldable pub wordOf : Held → List ℕ → List ℕ

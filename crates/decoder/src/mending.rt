@@ -30,7 +30,7 @@ fn leftover(table: &[u64; 192], c: Held, words: &[u64; 8]) -> Register
     ensures { λ q. ⌜ contents q ≡ leftover c (wordOf c (now (words .entry))) ⌝ }
 {
     let k = c.k;
-    remainders::leftover(table, k, words)
+    remainders::leftover(table, (c.n - k - 1) / 64, k, words)
 }
 
 // The word itself where it is a codeword, else a copy with places flipped, if one is found that is.

@@ -1,7 +1,7 @@
 // The places at which the locator vanishes: each zero that roots finds is an element; its logarithm says which place of the word it stands for.
 ghost use mathlib.Core.Path.{_≡_};
 ghost use mathlib.Core.List.{List};
-ghost use Prim.Native.Nat.{ℕ, suc, _+_, _-_, _<_, _≤_};
+ghost use Prim.Native.Nat.{ℕ, suc, _+_, _<_, _≤_};
 ghost use lib.ListN.{length, take, set};
 ghost use Rattle.field.specs.Tables.{logTable};
 ghost use Rattle.bits.specs.Words.{digits};
@@ -117,45 +117,38 @@ fn mark(out: &mut [u64; 8], p: usize)
 fn listing(marks: &[u64; 8]) -> Flips
     ensures { λ r. ⌜ Listing (onesOf (bits512 (now (marks .entry)))) r ⌝ }
 {
-    let mut flips = Flips {
-        count: 0,
-        places: [0; PLACES],
-    };
+    let mut places = [0u16; PLACES];
+    let mut count: usize = 0;
     let mut w: usize = 0;
     while w < 8 {
-        flips = listed_in(marks[w], 64 * w, flips);
+        count = listed_in(marks[w], 64 * w, count, &mut places);
         w += 1;
     }
-    flips
+    Flips { count, places }
 }
 
-// And those that stand in x, whose highest digit is the place `from`.
-fn listed_in(x: u64, from: usize, before: Flips) -> Flips
-    requires { ⌜ (from + 64 ≤ 512) × (before .count ≤ from) ⌝ }
-    ensures { λ r. ⌜ r ≡ allMore before (onesFrom from (digits 64 x)) ⌝ }
+// And those that stand in x, whose highest digit is the place `from`, behind the first `before`; how many there are then.
+fn listed_in(x: u64, from: usize, before: usize, places: &mut [u16; PLACES]) -> usize
+    requires { ⌜ (from + 64 ≤ 512) × (before ≤ from) ⌝ }
+    ensures { λ r. ⌜ record { count = r; places = now (places .exit) } ≡ allMore (record { count = before; places = now (places .entry) }) (onesFrom from (digits 64 x)) ⌝ }
 {
-    let mut flips = before;
+    let mut count = before;
     let mut rest = x;
     while rest != 0 {
         let lead = u64::leading_zeros(rest) as usize;
-        flips = one_more(flips, from + lead);
+        put_place(places, count, from + lead);
+        count += 1;
         rest = rest ^ (0x8000_0000_0000_0000 >> lead);
     }
-    flips
+    count
 }
 
 // One place more, behind those listed, where there is room.
-fn one_more(flips: Flips, i: usize) -> Flips
-    requires { ⌜ (flips .count ≤ 512) × (i < 512) ⌝ }
-    ensures { λ r. ⌜ r ≡ oneMore flips i ⌝ }
+fn put_place(places: &mut [u16; PLACES], count: usize, i: usize)
+    requires { ⌜ i < 512 ⌝ }
+    ensures { λ _. ⌜ record { count = count + 1; places = now (places .exit) } ≡ oneMore (record { count = count; places = now (places .entry) }) i ⌝ }
 {
-    let count = flips.count;
-    let mut places = flips.places;
     if count < PLACES {
         places[count] = i as u16;
-    }
-    Flips {
-        count: count + 1,
-        places,
     }
 }

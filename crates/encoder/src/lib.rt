@@ -64,7 +64,7 @@ fn codeword(c: Held, information: [u64; 8]) -> [u64; 8]
     let k = c.k;
     let generator = c.generator;
     let table = register::table(generator);
-    let r = remainders::leftover(&table, k, &information);
+    let r = remainders::leftover(&table, (c.n - k - 1) / 64, k, &information);
     let remainder = [r.high, r.mid, r.low, 0, 0, 0, 0, 0];
     packed::xor(&information, &packed::down(&remainder, k))
 }

@@ -10,7 +10,7 @@ use borrow.Author.Tests.{le-leb, lt-leb, lt-ltb, le-ltb, eq-eqb, ne-eqb}
 use lib.IntN.{ℤ}
 use lib.ListN.{length}
 use Rattle.points.specs.Dqpsk.{dibits, strayAt}
-use Rattle.symbols.specs.Grids.{received, indexOf, firstOccupied, room}
+use Rattle.symbols.specs.Grids.{received, firstOccupied, room}
 use Rattle.answers.specs.Checks.{Checked, fails, passes}
 use Rattle.payload_a.specs.Segments.{protectedDiffering, mostDiffering}
 use Rattle.payload_a.specs.CodedA.{bytesA}
@@ -47,15 +47,8 @@ module _ (P : Checked Unit → Type 0) (mode : ℕ) (is qs : List ℤ) (area : L
 -- ---- points
 
 module _ (P : Checked Unit → Type 0) (is qs : List ℤ) where
-  pub some-occupied : firstOccupied is qs 0 512 < 512 → P (fails 7 (firstOccupied is qs 0 512)) → P (pointsChecked is qs)
-  some-occupied l p = rw (lt-ltb (firstOccupied is qs 0 512) 512 l) p
-
-  module _ (empty : 512 ≤ firstOccupied is qs 0 512) where
-    pub some-stray : strayAt (received 2 is qs) < 420 → P (fails 8 (indexOf (strayAt (received 2 is qs)))) → P (pointsChecked is qs)
-    some-stray l p = rw (le-ltb (firstOccupied is qs 0 512) 512 empty, lt-ltb (strayAt (received 2 is qs)) 420 l) p
-
-    pub legal : 420 ≤ strayAt (received 2 is qs) → P (noiseChecked (dibits (received 2 is qs))) → P (pointsChecked is qs)
-    legal l p = rw (le-ltb (firstOccupied is qs 0 512) 512 empty, le-ltb (strayAt (received 2 is qs)) 420 l) p
+  pub legal : 512 ≤ firstOccupied is qs 0 512 → 420 ≤ strayAt (received 2 is qs) → P (noiseChecked (dibits (received 2 is qs))) → P (pointsChecked is qs)
+  legal empty l p = rw (le-ltb (firstOccupied is qs 0 512) 512 empty, le-ltb (strayAt (received 2 is qs)) 420 l) p
 
 -- ---- noise
 

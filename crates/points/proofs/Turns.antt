@@ -1,20 +1,20 @@
 -- DQPSK: the turns are Table 1, and bits and points give each other back.
 -- Assumes nothing.
-use mathlib.Core.Path.{_≡_, refl, sym, ap}
-use mathlib.Core.Bool.{true, false, cond, true≢false}
+use mathlib.Core.Path.{_≡_, refl, sym, ap, _∙_}
+use mathlib.Core.Bool.{Bool, true, false, cond, true≢false}
 use mathlib.Core.List.{List, [], _∷_, map}
 use Prim.Native.Nat.{ℕ, zero, suc, _+_, _-_, _*_, _/_, _%_, _<_}
 use native.Mathlib.Nat.{mod-lt}
 use native.Mathlib.Omega.{arith}
 use lib.Dec.{T, eqb, lit<}
-use lib.IntN.{ℤ}
+use lib.IntN.{ℤ, pos, negsuc, natAbs}
 use lib.ListN.{length, getD}
 use Rattle.points.specs.declared.Point.{Point}
 use Rattle.points.specs.declared.Point.the-variants.{At, Nothing}
 use Rattle.points.specs.declared.Label.{Label}
 use Rattle.points.specs.declared.Label.the-variants.{Of, Stray}
-use Rattle.points.specs.Constellations.{labelAt, next, labelNumber, isStray, levelI, levelQ}
-use Rattle.points.specs.Lent.{partsOf, phaseGuess, confirmed}
+use Rattle.points.specs.Constellations.{labelAt, next, labelNumber, isAt, isStray, levelI, levelQ}
+use Rattle.points.specs.Lent.{phaseRead, confirmed}
 use Rattle.points.specs.Dqpsk.{table1, phases, turns, turn, dibitTo, phasePoint, phaseOf, turnedFrom, turned, dibitsFrom, dibits, phaseAt, strayAt, after}
 use Rattle.bits.specs.Words.{Bits}
 use Rattle.ground.specs.First.{firstIn}
@@ -24,20 +24,41 @@ use Rattle.points.proofs.Places.{Tells, tells, tells-is, look-again, po
 
 -- ---- the phase of a point
 
-guess : ℤ → ℤ → ℕ
-guess i q = phaseGuess (partsOf i) (partsOf q)
+read-test : T (tells phaseRead phases)
+unfolding phaseRead phases
+read-test = tt
 
-guess-test : T (tells guess phases)
-unfolding guess phases
-guess-test = tt
+read-tells : Tells phaseRead phases
+read-tells = tells-is phaseRead phases read-test
 
-guess-tells : Tells guess phases
-guess-tells = tells-is guess phases guess-test
+pub phase-again : (i q : ℤ) → confirmed (phasePoint (phaseRead i q)) (phaseRead i q) i q ≡ phaseOf i q
+unfolding phasePoint phaseOf
+phase-again i q = look-again phaseRead phases read-tells i q
 
-pub phase-again : (i q : ℤ) →
-    confirmed (phasePoint (phaseGuess (partsOf i) (partsOf q))) (phaseGuess (partsOf i) (partsOf q)) i q ≡ phaseOf i q
-unfolding guess phasePoint phaseOf
-phase-again i q = look-again guess phases guess-tells i q
+-- that of a point of DQPSK is what the point is read as
+pub phase-read : (i q : ℤ) → isStray (phaseOf i q) ≡ false → labelNumber (phaseOf i q) ≡ phaseRead i q
+phase-read i q kept = ap labelNumber (sym (phase-again i q)) ∙ by (isAt (phasePoint (phaseRead i q)) i q) (ap isStray (phase-again i q) ∙ kept)
+  where
+    by : (there : Bool) → isStray (cond there (Of (phaseRead i q)) Stray) ≡ false → labelNumber (cond there (Of (phaseRead i q)) Stray) ≡ phaseRead i q
+    by true e = refl
+    by false e = absurd (true≢false e)
+
+-- levels whose sizes are 0 and 1 are those of a point of DQPSK
+pub single-legal : (i q : ℤ) → natAbs i + natAbs q ≡ 1 → isStray (phaseOf i q) ≡ false
+unfolding phaseOf phases labelAt next
+single-legal (pos zero) (pos (suc zero)) e = refl
+single-legal (pos zero) (negsuc zero) e = refl
+single-legal (pos (suc zero)) (pos zero) e = refl
+single-legal (negsuc zero) (pos zero) e = refl
+single-legal (pos zero) (pos zero) e = absurd (omega arith)
+single-legal (pos zero) (pos (suc (suc m))) e = absurd (omega arith)
+single-legal (pos zero) (negsuc (suc m)) e = absurd (omega arith)
+single-legal (pos (suc zero)) (pos (suc m)) e = absurd (omega arith)
+single-legal (pos (suc zero)) (negsuc m) e = absurd (omega arith)
+single-legal (pos (suc (suc n))) q e = absurd (omega arith)
+single-legal (negsuc zero) (pos (suc m)) e = absurd (omega arith)
+single-legal (negsuc zero) (negsuc m) e = absurd (omega arith)
+single-legal (negsuc (suc n)) q e = absurd (omega arith)
 
 point-of-phase : (i q : ℤ) (phase : ℕ) → phaseOf i q ≡ Of phase → phasePoint phase ≡ At i q
 unfolding phasePoint phaseOf

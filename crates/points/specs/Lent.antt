@@ -84,6 +84,10 @@ guessIn quadrants n i q = cond (eqb n 3) (eightGuess i q) (quarterGuess quadrant
 abbrev pub phaseGuess : Parts → Parts → ℕ
 phaseGuess i q = (q .size % 4 + i .sign % 2 * 2 + q .sign % 2 * 3) % 4
 
+-- the phase that (i, q) is read as, whether it is a point of DQPSK or not
+unfoldable pub phaseRead : ℤ → ℤ → ℕ
+phaseRead i q = phaseGuess (partsOf i) (partsOf q)
+
 -- the label guessed for (i, q), if p, the point of that label, is (i, q)
 abbrev pub confirmed : Point → ℕ → ℤ → ℤ → Label
 confirmed p guess i q = cond (isAt p i q) (Of guess) Stray

@@ -6,7 +6,7 @@ use crate::level::Parts;
 use crate::look;
 ghost use mathlib.Core.Path.{_≡_};
 ghost use Rattle.points.specs.Dqpsk.{turn, dibitTo, phasePoint, phaseOf};
-ghost use Rattle.points.specs.Lent.{phaseGuess};
+ghost use Rattle.points.specs.Lent.{phaseGuess, phaseRead};
 
 // The quarter turns of the dibits 00, 01, 10 and 11: 0, +1, -1 and +2. The table is its own inverse.
 const TURNS: [u8; 4] = [0, 1, 3, 2];
@@ -47,8 +47,15 @@ pub fn point(phase: u16) -> Point
 pub fn phase(i: i16, q: i16) -> Label
     ensures { λ r. ⌜ r ≡ phaseOf i q ⌝ }
 {
-    let guess = guess(level::apart(i), level::apart(q));
+    let guess = read(i, q);
     look::confirmed(point(guess), guess, i, q)
+}
+
+// The phase that (i, q) is read as, without a look whether it is that of (i, q).
+pub fn read(i: i16, q: i16) -> u16
+    ensures { λ r. ⌜ r ≡ phaseRead i q ⌝ }
+{
+    guess(level::apart(i), level::apart(q))
 }
 
 // The one phase that (i, q) can have.

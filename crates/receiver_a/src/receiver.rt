@@ -5,14 +5,13 @@ ghost use mathlib.Core.List.{_++_};
 ghost use Prim.Native.Nat.{_+_, _*_, _≤_};
 ghost use lib.ListN.{length, take};
 ghost use Rattle.bits.specs.Words.{Bits, digits};
-ghost use Rattle.points.specs.Dqpsk.{dibits};
+ghost use Rattle.points.specs.Dqpsk.{dibits, strayAt};
 ghost use Rattle.symbols.specs.Grids.{received};
 ghost use Rattle.bch.specs.Codes.{code3};
 ghost use Rattle.payload_a.specs.Segments.{rowBits, symbolBits};
 ghost use Rattle.payload_a.specs.CodedA.{bytesA};
 ghost use Rattle.payload_a.specs.PromiseA.{elementsA, noiseChecked, pointsChecked, Answered, Receives};
 ghost use Rattle.receiver_a.specs.Steps.{Pair, Rows, flatOf, Delivered, settledAs};
-use crate::phases;
 use crate::rows;
 use answers::Decoded;
 use answers::PLACES;
@@ -26,9 +25,9 @@ use payload_a::check;
 use payload_a::segments;
 use payload_a::segments::BLOCK;
 use payload_a::segments::MOST_DIFFERING;
-use symbols::grid;
-use symbols::grid::POINTS;
+use symbols::Fault;
 use symbols::grid::SUB_CARRIERS;
+use symbols::phases;
 
 // Whether 32 bits are those of a check.
 fn is_check(check: u32, bits: &[u8]) -> bool
@@ -165,26 +164,29 @@ fn read(mode: u8, first: &[u8], second: &[u8], area: &mut [u8]) -> ReceivedBurst
     answer(mode, rows, differing, area)
 }
 
-// Checks 7 and 8, and then the answer: the phase of the first OFDM symbol's last point is carried on.
+// The answer for points that are legal: the phase of the first OFDM symbol's last point is carried on.
+fn legal(mode: u8, i: &[i16], q: &[i16], area: &mut [u8]) -> ReceivedBurst
+    requires { ⌜ (mode ≤ 1) × (elementsA ≤ length (now i)) × (elementsA ≤ length (now q)) × (bytesA mode ≤ length (now area)) × (strayAt (received 2 (now i) (now q)) ≡ length (received 2 (now i) (now q))) ⌝ }
+    ensures { λ r. ⌜ Receives (noiseChecked (dibits (received 2 (now (i .entry)) (now (q .entry))))) mode (dibits (received 2 (now (i .entry)) (now (q .entry)))) (now (area .entry)) r (now (area .exit)) ⌝ }
+{
+    let first = phases::read(0, &i[0..SUB_CARRIERS], &q[0..SUB_CARRIERS]);
+    let second = phases::read(
+        first.last,
+        &i[SUB_CARRIERS..ELEMENTS],
+        &q[SUB_CARRIERS..ELEMENTS],
+    );
+    read(mode, &first.bits, &second.bits, area)
+}
+
+// Checks 7 and 8, and then the answer.
 pub(crate) fn receive(mode: u8, i: &[i16], q: &[i16], area: &mut [u8]) -> ReceivedBurst
     requires { ⌜ (mode ≤ 1) × (elementsA ≤ length (now i)) × (elementsA ≤ length (now q)) × (bytesA mode ≤ length (now area)) ⌝ }
     ensures { λ r. ⌜ Receives (pointsChecked (now (i .entry)) (now (q .entry))) mode (dibits (received 2 (now (i .entry)) (now (q .entry)))) (now (area .entry)) r (now (area .exit)) ⌝ }
 {
-    let occupied = grid::first_occupied(i, q, ELEMENTS);
-    if occupied < ELEMENTS {
-        return answers::no_burst(Refusal::Occupied(occupied));
+    let fault = phases::first_fault(2, i, q);
+    match fault {
+        Fault::Occupied(index) => answers::no_burst(Refusal::Occupied(index)),
+        Fault::StrayPoint(index) => answers::no_burst(Refusal::StrayPoint(index)),
+        Fault::Clear => legal(mode, i, q, area),
     }
-    let first = phases::read_bits(&i[0..SUB_CARRIERS], &q[0..SUB_CARRIERS], 0);
-    if first.stray < POINTS {
-        return answers::no_burst(Refusal::StrayPoint(grid::index(first.stray as u16)));
-    }
-    let second = phases::read_bits(
-        &i[SUB_CARRIERS..ELEMENTS],
-        &q[SUB_CARRIERS..ELEMENTS],
-        first.last,
-    );
-    if second.stray < POINTS {
-        return answers::no_burst(Refusal::StrayPoint(grid::index((POINTS + second.stray) as u16)));
-    }
-    read(mode, &first.bits, &second.bits, area)
 }

@@ -1,22 +1,21 @@
 -- Checks 7 and 8 by the first fault of the points: what they say, and that no point is stray where there is none.
 -- Assumes nothing.
-use mathlib.Core.Path.{_≡_, refl, sym, ap, _∙_}
-use mathlib.Core.Bool.{Bool, true, false, cond}
+use mathlib.Core.Path.{_≡_, sym, ap, _∙_}
+use mathlib.Core.Bool.{true}
 use mathlib.Core.List.{List}
 use Prim.Native.Nat.{ℕ, _*_, _≤_}
-use native.Mathlib.Omega.{arith}
-use borrow.Author.Tests.{eq-eqb, le-leb, ltb-false}
-use lib.Dec.{ltb}
+use borrow.Author.Tests.{eq-eqb, le-leb}
 use lib.IntN.{ℤ}
 use lib.ListN.{length}
 use Rattle.answers.specs.Checks.{Checked, fails, passes}
-use Rattle.symbols.specs.Grids.{received, indexOf, firstOccupied}
+use Rattle.symbols.specs.Grids.{received}
 use Rattle.symbols.specs.Schemes.{Scheme, badEntry, repeated, strayIn}
-use Rattle.symbols.specs.ByScheme.{readable}
+use Rattle.symbols.specs.Faults.{faultAt}
+use Rattle.symbols.specs.ByScheme.{readable, faultIn}
+use Rattle.symbols.proofs.Faults.{fault-made, fault-clear}
 use Rattle.payload_b.specs.PromiseB.{pointsCheckedB}
-use Rattle.symbols.specs.ByScheme.{faultOf, faultIn}
-use Rattle.symbols.specs.declared.scheme.Fault.{Fault}
-use Rattle.symbols.specs.declared.scheme.Fault.the-variants.{Clear, Occupied, StrayPoint}
+use Rattle.symbols.specs.declared.Fault.{Fault}
+use Rattle.symbols.specs.declared.Fault.the-variants.{Clear, Occupied, StrayPoint}
 
 -- m OFDM symbols can be looked at
 pub is-readable : {scheme : List ℕ} → Scheme scheme → (m : ℕ) → m ≤ 256 → (is qs : List ℤ) → 256 * m ≤ length is → 256 * m ≤ length qs
@@ -38,28 +37,14 @@ says (StrayPoint at) = fails 8 at
 
 -- of that which is found first
 module _ {scheme : List ℕ} (good : Scheme scheme) (m : ℕ) (few : m ≤ 256) (is qs : List ℤ) (li : 256 * m ≤ length is) (lq : 256 * m ≤ length qs) where
-  abbrev occupiedFirst : ℕ
-  occupiedFirst = firstOccupied is qs 0 (256 * m)
-
   abbrev strayFirst : ℕ
   strayFirst = strayIn (repeated m scheme) (received m is qs)
 
-  looked-at : {f : Fault} → f ≡ faultIn m scheme is qs → f ≡ faultOf m scheme is qs
+  looked-at : {f : Fault} → f ≡ faultIn m scheme is qs → f ≡ faultAt strayFirst m is qs
   looked-at e = rw (is-readable good m few is qs li lq) at e
 
   pub fault-says : {f : Fault} → f ≡ faultIn m scheme is qs → pointsCheckedB m scheme is qs ≡ says f
-  fault-says {f} e = by (ltb occupiedFirst (256 * m)) (ltb strayFirst (210 * m)) ∙ sym (ap says (looked-at e))
-    where
-      by : (a b : Bool) → cond a (fails 7 occupiedFirst) (cond b (fails 8 (indexOf strayFirst)) (passes tt))
-          ≡ says (cond a (Occupied occupiedFirst) (cond b (StrayPoint (indexOf strayFirst)) Clear))
-      by true b = refl
-      by false true = refl
-      by false false = refl
+  fault-says e = fault-made strayFirst m is qs says ∙ sym (ap says (looked-at e))
 
-  pub fault-clear : Clear ≡ faultIn m scheme is qs → 210 * m ≤ strayFirst
-  fault-clear e = ltb-false strayFirst (210 * m) (by (ltb occupiedFirst (256 * m)) (ltb strayFirst (210 * m)) (looked-at e))
-    where
-      by : (a b : Bool) → Clear ≡ cond a (Occupied occupiedFirst) (cond b (StrayPoint (indexOf strayFirst)) Clear) → b ≡ false
-      by true b h = absurd (let z : _≡_ {A = ℕ} 0 1 = cc in omega arith)
-      by false true h = absurd (let z : _≡_ {A = ℕ} 0 1 = cc in omega arith)
-      by false false h = refl
+  pub none-stray : Clear ≡ faultIn m scheme is qs → 210 * m ≤ strayFirst
+  none-stray e = fault-clear strayFirst m is qs (looked-at e)

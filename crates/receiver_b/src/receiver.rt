@@ -12,8 +12,8 @@ use answers::ReceivedB;
 use answers::Refusal;
 use payload_b::plan::Plan;
 use points::constellation;
+use symbols::Fault;
 use symbols::scheme;
-use symbols::scheme::Fault;
 
 // Makes each element of out zero.
 fn clear(out: &mut [u8])

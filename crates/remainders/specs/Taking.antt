@@ -2,7 +2,7 @@
 -- sixteen a step, or eight; and what is left of it.
 -- Assumes nothing.
 use mathlib.Core.List.{List}
-use Prim.Native.Nat.{ℕ, zero, suc, _+_, _-_, _*_, _/_, _%_, _^_, min}
+use Prim.Native.Nat.{ℕ, zero, suc, _+_, _-_, _*_, _/_, _%_, _^_, _<_, min}
 use lib.Bits.{bitXor}
 use lib.ListN.{getD, take, drop}
 use Rattle.packed.specs.Packed.{bits512}
@@ -16,6 +16,18 @@ eightBy table z = bitXor (entryAt table (16 + z / 16)) (entryAt table (z % 16))
 unfoldable pub sixteenBy : List ℕ → ℕ → ℕ
 sixteenBy table z =
     bitXor (bitXor (entryAt table (48 + z / 4096)) (entryAt table (32 + z / 256 % 16))) (bitXor (entryAt table (16 + z / 16 % 16)) (entryAt table (z % 16)))
+
+-- the sum of the machine words of the same four entries, of those that begin at `at`; and that each is one
+unfoldable pub fourBy : List ℕ → ℕ → ℕ → ℕ
+fourBy table at z =
+    bitXor (bitXor (getD table (at + (48 + z / 4096)) 0) (getD table (at + (32 + z / 256 % 16)) 0))
+    (bitXor (getD table (at + (16 + z / 16 % 16)) 0) (getD table (at + z % 16) 0))
+
+pub record FourFit (table : List ℕ) (at z : ℕ) : Type 0 where
+  pub first : getD table (at + (48 + z / 4096)) 0 < 2 ^ 64
+  pub second : getD table (at + (32 + z / 256 % 16)) 0 < 2 ^ 64
+  pub third : getD table (at + (16 + z / 16 % 16)) 0 < 2 ^ 64
+  pub fourth : getD table (at + z % 16) 0 < 2 ^ 64
 
 -- a register of 192 digits takes in eight zeros
 unfoldable pub turnBy8 : List ℕ → ℕ → ℕ

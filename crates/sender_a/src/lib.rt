@@ -1,10 +1,8 @@
 // Sending Payload A of HiNoC (ITU-T J.195.2, clause 7.4, as document 01 reads it): a frame to points.
 //
-//   phases      DQPSK, clause 6.4.2
 //   sender      one frame, whose mode and length are checked
 ghost use Rattle.payload_a.specs.PromiseA.{SendingA};
 
-mod phases;
 mod sender;
 
 use answers::Refusal;

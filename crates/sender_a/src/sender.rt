@@ -10,11 +10,7 @@ ghost use Rattle.payload_a.specs.PromiseA.{elementsA};
 ghost use Rattle.payload_a.specs.CodedA.{bytesA, information, blocksA, codedA, sentI, sentQ};
 ghost use Rattle.points.specs.Constellations.{levelI, levelQ};
 ghost use Rattle.points.specs.Dqpsk.{turned};
-ghost use Rattle.symbols.specs.Grid.{symbolPoints};
-ghost use Rattle.symbols.specs.Grids.{spread, placed};
-ghost use Rattle.sender_a.specs.Phases.{turnedOn};
-use crate::phases;
-use crate::phases::Turned;
+ghost use Rattle.symbols.specs.Grids.{placed};
 use payload::scrambler;
 use payload_a::ELEMENTS;
 use payload_a::check;
@@ -23,8 +19,8 @@ use payload_a::segments::BLOCK;
 use payload_a::segments::CARRIED;
 use payload_a::segments::SEGMENT;
 use payload_a::segments::SYMBOL;
-use symbols::grid;
 use symbols::grid::SUB_CARRIERS;
+use symbols::phases;
 
 // The 32 bits of a check, highest power first.
 fn put_check(check: u32, out: &mut [u8])
@@ -111,32 +107,23 @@ fn symbol(block: &[u8]) -> [u8; SYMBOL]
     out
 }
 
-// The levels of the OFDM symbol that carries a block of bits, from the phase before it.
-fn turn_block(phase: u16, block: &[u8]) -> Turned
-    requires { ⌜ Bits (now block) × (length (now block) ≡ rowBits) ⌝ }
-    ensures { λ r. ⌜ r ≡ turnedOn phase (symbolOf (take segmentBits (now (block .entry))) (drop segmentBits (now (block .entry)))) ⌝ }
-{
-    phases::turn_bits(phase, &symbol(block))
-}
-
-// Puts the levels of two OFDM symbols, 210 of each, one symbol behind the other.
-fn put_both(first: &[i16], second: &[i16], out: &mut [i16])
-    requires { ⌜ (length (now first) ≡ symbolPoints) × (length (now second) ≡ symbolPoints) × (elementsA ≤ length (now out)) ⌝ }
-    ensures { λ _. ⌜ now (out .exit) ≡ spread (now (first .entry)) ++ (spread (now (second .entry)) ++ drop elementsA (now (out .entry))) ⌝ }
-{
-    grid::put_levels(first, &mut out[0..SUB_CARRIERS]);
-    grid::put_levels(second, &mut out[SUB_CARRIERS..ELEMENTS]);
-}
-
 // Puts the points of 784 bits onto the two OFDM symbols.
 fn put_points(bits: &[u8], i: &mut [i16], q: &mut [i16])
     requires { ⌜ Bits (now bits) × (length (now bits) ≡ 2 * rowBits) × (elementsA ≤ length (now i)) × (elementsA ≤ length (now q)) ⌝ }
     ensures { λ _. ⌜ (now (i .exit) ≡ placed levelI 2 (turned (framed (now (bits .entry)))) ++ drop elementsA (now (i .entry))) × (now (q .exit) ≡ placed levelQ 2 (turned (framed (now (bits .entry)))) ++ drop elementsA (now (q .entry))) ⌝ }
 {
-    let first = turn_block(0, &bits[0..BLOCK]);
-    let second = turn_block(first.last, &bits[BLOCK..CARRIED]);
-    put_both(&first.is, &second.is, i);
-    put_both(&first.qs, &second.qs, q);
+    let last = phases::write(
+        0,
+        &symbol(&bits[0..BLOCK]),
+        &mut i[0..SUB_CARRIERS],
+        &mut q[0..SUB_CARRIERS],
+    );
+    phases::write(
+        last,
+        &symbol(&bits[BLOCK..CARRIED]),
+        &mut i[SUB_CARRIERS..ELEMENTS],
+        &mut q[SUB_CARRIERS..ELEMENTS],
+    );
 }
 
 // Sends a frame of the mode's length.

@@ -17,3 +17,4 @@ pub mod Joins
 pub mod Growth
 pub mod Spreads
 pub mod Writings
+pub mod Dibits

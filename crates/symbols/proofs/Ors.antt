@@ -19,6 +19,9 @@ or-none a b e =
 pub xor-even : (a b : ℕ) → bitXor a b % 2 ≡ 0 → a % 2 ≡ b % 2
 xor-even a b e = omega (arith, xor-add-and a b)
 
+pub xor-none : (a b : ℕ) → bitXor a b ≡ 0 → a ≡ b
+xor-none a b e = omega (arith, xor-add-and a b, and-le-l a b, and-le-r a b)
+
 -- a turn: what x says of the indices below s, and y of s
 pub or-more : (P : ℕ → Type 0) (x y s : ℕ) → (x ≡ 0 → (t : ℕ) → t < s → P t) → (y ≡ 0 → P s) → bitOr x y ≡ 0 → (t : ℕ) → t < s + 1 → P t
 or-more P x y s before here e = let none = or-none x y e in below-more P s (before (none .0)) (here (none .1))

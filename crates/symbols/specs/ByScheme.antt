@@ -3,8 +3,8 @@
 -- Assumes nothing.
 use mathlib.Core.Bool.{Bool, cond, _&&_}
 use mathlib.Core.List.{List, [], _∷_, _++_, map}
-use Prim.Native.Nat.{ℕ, _*_}
-use lib.Dec.{eqb, leb, ltb}
+use Prim.Native.Nat.{ℕ}
+use lib.Dec.{eqb}
 use lib.IntN.{ℤ}
 use lib.ListN.{length, take, drop}
 use Rattle.bits.specs.Words.{digits}
@@ -13,25 +13,19 @@ use Rattle.points.specs.declared.Point.{Point}
 use Rattle.points.specs.Constellations.{levelI, levelQ}
 use Rattle.points.specs.Lent.{pointIn, readIn}
 use Rattle.symbols.specs.Grid.{subCarriers, symbolPoints}
-use Rattle.symbols.specs.Grids.{spread, pointsFrom, received, indexOf, firstOccupied, room}
+use Rattle.symbols.specs.Grids.{spread, pointsFrom, received}
+use Rattle.symbols.specs.Faults.{roomy, faultAt}
 use Rattle.symbols.specs.Schemes.{badEntry, repeated, strayIn}
-use Rattle.symbols.specs.declared.scheme.Fault.{Fault}
-use Rattle.symbols.specs.declared.scheme.Fault.the-variants.{Clear, Occupied, StrayPoint}
+use Rattle.symbols.specs.declared.Fault.{Fault}
+use Rattle.symbols.specs.declared.Fault.the-variants.{Clear}
 
--- m OFDM symbols can be looked at: by a scheme, at most 256 of them, in lists that are long enough
+-- m OFDM symbols can be looked at by a scheme
 abbrev pub readable : ℕ → List ℕ → List ℤ → List ℤ → Bool
-readable m scheme is qs = (eqb (length scheme) symbolPoints && eqb (badEntry scheme) symbolPoints) && (leb m 256 && room (subCarriers * m) is qs)
+readable m scheme is qs = (eqb (length scheme) symbolPoints && eqb (badEntry scheme) symbolPoints) && roomy m is qs
 
--- checks 7 and 8: 7 over all OFDM symbols before 8 begins
-abbrev pub faultOf : ℕ → List ℕ → List ℤ → List ℤ → Fault
-faultOf m scheme is qs =
-    cond (ltb (firstOccupied is qs 0 (subCarriers * m)) (subCarriers * m)) (Occupied (firstOccupied is qs 0 (subCarriers * m)))
-    (cond (ltb (strayIn (repeated m scheme) (received m is qs)) (symbolPoints * m)) (StrayPoint (indexOf (strayIn (repeated m scheme) (received m is qs))))
-    Clear)
-
--- where they cannot be looked at, no fault is found
+-- checks 7 and 8; where they cannot be looked at, no fault is found
 abbrev pub faultIn : ℕ → List ℕ → List ℤ → List ℤ → Fault
-faultIn m scheme is qs = cond (readable m scheme is qs) (faultOf m scheme is qs) Clear
+faultIn m scheme is qs = cond (readable m scheme is qs) (faultAt (strayIn (repeated m scheme) (received m is qs)) m is qs) Clear
 
 -- the bits that points are read as by a lent table (points/specs/Lent), without a look whether they are of their constellations
 unfoldable pub readBy : List ℕ → List ℕ → List Point → List ℕ

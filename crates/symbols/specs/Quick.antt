@@ -40,7 +40,15 @@ Zeros levels = (k : ℕ) → k < length levels → getD levels k (pos 0) ≡ pos
 abbrev pub EmptyFrom : ℕ → ℕ → List ℤ → List ℤ → Type 0
 EmptyFrom from end is qs = (k : ℕ) → from ≤ k → k < end → (getD is k (pos 0) ≡ pos 0) × (getD qs k (pos 0) ≡ pos 0)
 
--- one OFDM symbol: its unavailable sub-carriers are empty, and its points passed by the tables
-pub record Looked (most odd holes : List ℕ) (is qs : List ℤ) : Type 0 where
+-- one OFDM symbol: its unavailable sub-carriers are empty, and P holds of the levels of each of its points
+pub record Seen (P : ℕ → ℤ → ℤ → Type 0) (is qs : List ℤ) : Type 0 where
   pub empty : (k : ℕ) → k < subCarriers → carrierAt k ≡ Empty → (getD is k (pos 0) ≡ pos 0) × (getD qs k (pos 0) ≡ pos 0)
-  pub held : (s : ℕ) → s < symbolPoints → PassedBy most odd holes s (getD is (carrierOf (suc s)) (pos 0)) (getD qs (carrierOf (suc s)) (pos 0))
+  pub held : (s : ℕ) → s < symbolPoints → P s (getD is (carrierOf (suc s)) (pos 0)) (getD qs (carrierOf (suc s)) (pos 0))
+
+-- they passed by the tables
+abbrev pub Looked : List ℕ → List ℕ → List ℕ → List ℤ → List ℤ → Type 0
+Looked most odd holes = Seen (PassedBy most odd holes)
+
+-- the sizes of two levels are 0 and 1, as those of the points of DQPSK
+abbrev pub Single : ℕ → ℤ → ℤ → Type 0
+Single s i q = natAbs i + natAbs q ≡ 1

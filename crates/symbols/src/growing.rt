@@ -5,7 +5,7 @@ ghost use Prim.Native.Nat.{_+_, _-_, _/_, _^_, _≤_, _<_};
 ghost use lib.Bits.{bitOr};
 ghost use lib.ListN.{length, take, drop, replicate};
 ghost use Rattle.bits.specs.Words.{digits};
-ghost use Rattle.packed.specs.Packed.{bitsFrom, bits512, paddedTo};
+ghost use Rattle.packed.specs.Packed.{bitsFrom, paddedTo};
 ghost use Rattle.symbols.specs.Grid.{subCarriers, symbolPoints};
 ghost use Rattle.symbols.specs.Grids.{pointsFrom};
 ghost use Rattle.symbols.specs.Schemes.{Scheme};

@@ -1,14 +1,15 @@
 // A quick look at OFDM symbols: where it finds nothing wrong, nothing is. It reads sizes of levels alone, many at a time, and tells no place.
 ghost use mathlib.Core.Path.{_≡_};
 ghost use mathlib.Core.Bool.{true};
-ghost use Prim.Native.Nat.{_+_, _*_, _%_, _≤_};
-ghost use lib.IntN.{natAbs};
-ghost use lib.ListN.{length};
+ghost use Prim.Native.Nat.{ℕ, _+_, _*_, _%_, _≤_, _<_};
+ghost use lib.IntN.{pos, natAbs};
+ghost use lib.ListN.{length, getD};
+ghost use Rattle.points.specs.Dqpsk.{strayAt};
 ghost use Rattle.points.specs.Sizes.{mostOf, oddOf};
 ghost use Rattle.symbols.specs.Grid.{subCarriers, symbolPoints};
 ghost use Rattle.symbols.specs.Grids.{received, firstOccupied};
 ghost use Rattle.symbols.specs.Schemes.{Scheme, repeated, strayIn};
-ghost use Rattle.symbols.specs.Quick.{Passed, PassedAll, PassedFrom, Table, Zeros, EmptyFrom, Looked};
+ghost use Rattle.symbols.specs.Quick.{Passed, PassedAll, PassedFrom, Table, Zeros, EmptyFrom, Looked, Single, Seen};
 use crate::grid::POINTS;
 use crate::grid::SUB_CARRIERS;
 
@@ -29,6 +30,23 @@ pub(crate) fn all_sized(scheme: &[u8], m: usize, i: &[i16], q: &[i16]) -> bool
         let at = SUB_CARRIERS * k;
         let end = at + SUB_CARRIERS;
         if !sized(&most, &odd, &holes, &i[at..end], &q[at..end]) {
+            return false;
+        }
+        k += 1;
+    }
+    true
+}
+
+// Whether m OFDM symbols of DQPSK have no fault.
+pub(crate) fn all_turned(m: usize, i: &[i16], q: &[i16]) -> bool
+    requires { ⌜ (m ≤ 256) × (subCarriers * m ≤ length (now i)) × (subCarriers * m ≤ length (now q)) ⌝ }
+    ensures { λ r. ⌜ (r ≡ true → (firstOccupied (now (i .entry)) (now (q .entry)) 0 (subCarriers * m) ≡ subCarriers * m) × (strayAt (received m (now (i .entry)) (now (q .entry))) ≡ symbolPoints * m)) ⌝ }
+{
+    let mut k: usize = 0;
+    while k < m {
+        let at = SUB_CARRIERS * k;
+        let end = at + SUB_CARRIERS;
+        if !turned(&i[at..end], &q[at..end]) {
             return false;
         }
         k += 1;
@@ -69,6 +87,18 @@ fn sized(
         | occupied(i, q, 106, 151)
         | half(m, o, h, 0, i, q, 151)
         | half(m, o, h, HALF, i, q, 1)
+        == 0
+}
+
+// Whether the unavailable sub-carriers of one OFDM symbol are empty, and the sizes of the levels of its points those of points of DQPSK.
+fn turned(i: &[i16], q: &[i16]) -> bool
+    requires { ⌜ (length (now i) ≡ subCarriers) × (length (now q) ≡ subCarriers) ⌝ }
+    ensures { λ r. ⌜ (r ≡ true → Seen Single (now (i .entry)) (now (q .entry))) ⌝ }
+{
+    occupied(i, q, 0, 1)
+        | occupied(i, q, 106, 151)
+        | beside(&i[151..256], &q[151..256])
+        | beside(&i[1..106], &q[1..106])
         == 0
 }
 
@@ -121,6 +151,27 @@ fn amiss(most: &[u16], odd: &[u16], holes: &[u16], i: &[i16], q: &[i16]) -> u16
         s += 1;
     }
     x
+}
+
+// 0 only where the sizes of the levels of each point are 0 and 1.
+fn beside(i: &[i16], q: &[i16]) -> u16
+    requires { ⌜ length (now q) ≡ length (now i) ⌝ }
+    ensures { λ r. ⌜ (r ≡ 0 → (s : ℕ) → s < length (now (i .entry)) → Single s (getD (now (i .entry)) s (pos 0)) (getD (now (q .entry)) s (pos 0))) ⌝ }
+{
+    let mut x: u16 = 0;
+    let mut s: usize = 0;
+    while s < i.len() {
+        x = x | more_or_less(size(i[s]), size(q[s]));
+        s += 1;
+    }
+    x
+}
+
+// 0 only where one of two sizes is 1, and the other 0.
+fn more_or_less(e: u16, f: u16) -> u16
+    ensures { λ r. ⌜ (r ≡ 0 → e + f ≡ 1) ⌝ }
+{
+    if e == 0 { f ^ 1 } else { (e ^ 1) | f }
 }
 
 // 0 only where the sizes of two levels are those of a point.

@@ -2,9 +2,9 @@
 ghost use mathlib.Core.Path.{_≡_};
 ghost use mathlib.Core.Bool.{cond, _&&_, _||_};
 ghost use mathlib.Core.List.{_++_};
-ghost use Prim.Native.Nat.{_*_, _≤_, min};
+ghost use Prim.Native.Nat.{_*_, _≤_};
 ghost use lib.Dec.{eqb, ltb};
-ghost use lib.ListN.{length, take, replicate};
+ghost use lib.ListN.{length, take};
 ghost use Rattle.packed.specs.Packed.{bitsFrom, bits512, paddedTo};
 ghost use Rattle.points.specs.Constellations.{levelI, levelQ};
 ghost use Rattle.points.specs.Lent.{ourCells, ourQuadrants};
@@ -12,6 +12,8 @@ ghost use Rattle.symbols.specs.Grid.{subCarriers, symbolPoints};
 ghost use Rattle.symbols.specs.Grids.{received};
 ghost use Rattle.symbols.specs.Schemes.{badEntry, Scheme, repeated, strayIn};
 ghost use Rattle.symbols.specs.ByScheme.{readable, faultIn, symbolRead, symbolWritten};
+use crate::Fault;
+use crate::checks;
 use crate::grid;
 use crate::grid::POINTS;
 use crate::grid::SUB_CARRIERS;
@@ -20,13 +22,6 @@ use crate::quick;
 use crate::spreading;
 use packed::RUN;
 use points::constellation;
-
-// What is wrong with OFDM symbols: nothing, or the grid index of an unavailable sub-carrier that is occupied, or of a point that is none of its constellation.
-pub enum Fault {
-    Clear,
-    Occupied(usize),
-    StrayPoint(usize),
-}
 
 // The checks 7 and 8 of m OFDM symbols by a scheme. Where the scheme is none, or they are more than 256, or the lists are too short for them, nothing is looked at.
 pub fn first_fault(scheme: &[u8], m: usize, i: &[i16], q: &[i16]) -> Fault
@@ -38,17 +33,9 @@ pub fn first_fault(scheme: &[u8], m: usize, i: &[i16], q: &[i16]) -> Fault
     if quick::all_sized(scheme, m, i, q) {
         return Fault::Clear;
     }
-    let occupied = grid::first_occupied(i, q, SUB_CARRIERS * m);
-    if occupied < SUB_CARRIERS * m {
-        return Fault::Occupied(occupied);
-    }
     let cells = constellation::cells();
     let quadrants = constellation::quadrants();
-    let stray = first_stray(&cells, &quadrants, scheme, m, i, q);
-    if stray < POINTS * m {
-        return Fault::StrayPoint(grid::index(stray as u16));
-    }
-    Fault::Clear
+    checks::told(first_stray(&cells, &quadrants, scheme, m, i, q), m, i, q)
 }
 
 // The bits that the points of one OFDM symbol are read as, by a scheme and the table that is lent (points' `quadrants`), behind the first `count` bits of
@@ -94,10 +81,7 @@ fn is_readable(m: usize, scheme: &[u8], i: &[i16], q: &[i16]) -> bool
     if !is_scheme(scheme) {
         return false;
     }
-    if 256 < m {
-        return false;
-    }
-    grid::room(SUB_CARRIERS * m, i, q)
+    checks::is_roomy(m, i, q)
 }
 
 // Whether a scheme has 210 entries, each from 2 to 10.

@@ -1,32 +1,17 @@
--- `remainders::sixteen` meets its contract: four entries, added two by two.
+-- `remainders::sixteen` meets its contract: the four entries are added machine word by machine word.
 -- Assumes nothing.
-use mathlib.Core.Path.{ap₂, _∙_}
-use lib.Bits.{bitXor}
+use Prim.Native.Nat.{suc, _*_}
+use lib.ListN.{take}
+use Rattle.remainders.proofs.Narrow.{four-joined}
 use borrow.Author.Needs.{needs}
-use Rattle.remainders.specs.Taking.{sixteenBy}
 use Rattle.remainders.proofs.sixteen.Statement.{statement}
 use Rattle.remainders.proofs.sixteen.Tie as tie
 
 returns : tie.Need-returns
-unfolding sixteenBy
 returns c =
-    let two = c .before .before .before .before in
-    let highs = two .xor .ensures ∙ ap₂ bitXor (two .before .before .entry .ensures) (two .before .entry2 .ensures) in
-    let lows = c .before .xor2 .ensures ∙ ap₂ bitXor (c .before .before .before .entry3 .ensures) (c .before .before .entry4 .ensures) in
-    c .xor3 .ensures ∙ ap₂ bitXor highs lows
+    let a = c .before .before .before .args in
+    rw (c .four3 .ensures .0, c .before .four2 .ensures .0, c .before .before .four .ensures .0)
+    (four-joined (take (64 * suc (a .below)) (a .table .now)) (a .z) (c .before .four2 .ensures .1) (c .four3 .ensures .1))
 
 pub sixteen-spec : {M : Type 1} → statement M
-sixteen-spec =
-    tie.close
-    (tie.spec
-    (λ c. search needs)
-    (λ c κs. search needs)
-    (λ c. search needs)
-    (λ c κs. search needs)
-    (λ c κs. search needs)
-    (λ c. search needs)
-    (λ c κs. search needs)
-    (λ c κs. search needs)
-    (λ c κs. search needs)
-    (λ c κs. search needs)
-    returns)
+sixteen-spec = tie.close (tie.spec (λ c κs. search needs) (λ c κs. search needs) (λ c κs. search needs) returns)

@@ -2,9 +2,14 @@
 -- Assumes nothing.
 use mathlib.Core.Path.{sym, _∙_}
 use mathlib.Core.Logic.{inl}
+use Prim.Native.Nat.{ℕ, _^_, _<_}
+use lib.ListN.{getD}
+use mir.Syntax.{w64}
+use mir.Val.{Fits}
 use borrow.Author.Tests.{eqb-true}
 use Rattle.bch.specs.Registers.{contents}
 use Rattle.decoder.specs.Candidates.{wordOf, Ready}
+use Rattle.remainders.proofs.Leftovers.{sound-narrowed}
 use Rattle.decoder.proofs.Leftovers.{codeword-of-zero}
 use Rattle.decoder.proofs.Attempts.{clean}
 use Rattle.decoder.proofs.PackedWords.{word-long, word-bits, written}
@@ -12,8 +17,14 @@ use borrow.Author.Needs.{needs}
 use Rattle.decoder.proofs.mending.answer.Statement.{statement}
 use Rattle.decoder.proofs.mending.answer.Tie as tie
 
+-- the words of the table are machine words
+fit : (q : tie.After-table) (j : ℕ) → getD (q .table .result) j 0 < 2 ^ 64
+fit q j =
+    let one : Fits w64 (getD (q .table .result) j 0) = search needs in
+    one .fits
+
 made : (q : tie.After-table) → Ready (q .before .before .args .c) (q .table .result)
-made q = record { sound = q .before .before .pre .0; rule = q .table .ensures }
+made q = record { sound = q .before .before .pre .0; rule = sound-narrowed (q .before .before .pre .0) (q .table .result) (fit q) (q .table .ensures) }
 
 leftover-requires : tie.Need-leftover-requires
 leftover-requires c κs = let q = c .before .before in (made q, q .before .before .pre .1)

@@ -12,9 +12,9 @@ use Rattle.payload_b.specs.CodedB.{blockBytes}
 use Rattle.payload_b.specs.PromiseB.{pointsCheckedB, bitsReceived, ReceivesB}
 use Rattle.payload_b.specs.declared.plan.Plan.{Plan}
 use Rattle.payload_b.proofs.Plans.{whole-blocks}
-use Rattle.symbols.specs.declared.scheme.Fault.{Fault}
+use Rattle.symbols.specs.declared.Fault.{Fault}
 use Rattle.receiver_b.proofs.Taking.{began-sane}
-use Rattle.receiver_b.proofs.Faults.{says, fault-says, fault-clear}
+use Rattle.receiver_b.proofs.Faults.{says, fault-says, none-stray}
 use Rattle.receiver_b.proofs.Receiving.{all-taken, settled-b}
 use borrow.Author.Needs.{needs}
 use Rattle.receiver_b.proofs.receiver.receive.Statement.{statement}
@@ -53,7 +53,7 @@ clear : (c : tie.After-quadrants)
     210 * a .plan .symbols ≤ strayIn (repeated (a .plan .symbols) (a .scheme .now)) (received (a .plan .symbols) (a .i .now) (a .q .now))
 clear c =
     let s = first (found c) in
-    fault-clear (s .pre .sendable .entries) (s .args .plan .symbols) (few s) (s .args .i .now) (s .args .q .now) (s .pre .long-i) (s .pre .long-q)
+    none-stray (s .pre .sendable .entries) (s .args .plan .symbols) (few s) (s .args .i .now) (s .args .q .now) (s .pre .long-i) (s .pre .long-q)
     (sym (c .before .enum-told .given .1) ∙ found c .first-fault .ensures)
 
 take-symbols-requires : tie.Need-take-symbols-requires

@@ -5,13 +5,14 @@ use mathlib.Core.Bool.{true≢false}
 use Prim.Native.Nat.{_-_, _≤_}
 use native.Mathlib.Omega.{arith}
 use borrow.Author.Tests.{not-false}
-use Rattle.symbols.proofs.Looks.{Clean, clean-none, clean-more, clean-all}
+use Rattle.symbols.specs.Quick.{PassedBy}
+use Rattle.symbols.proofs.Looks.{Clean, clean-none, clean-more, sized-all}
 use borrow.Author.Needs.{needs}
 use Rattle.symbols.proofs.quick.all_sized.Statement.{statement}
 use Rattle.symbols.proofs.quick.all_sized.Tie as tie
 
 abbrev Inv-loop : tie.InvT-loop
-Inv-loop scheme m i q most odd holes k₀ k = (k ≤ m) × Clean scheme i q k
+Inv-loop scheme m i q most odd holes k₀ k = (k ≤ m) × Clean (PassedBy most odd holes) i q k
 
 abbrev μ-loop : tie.MeasureT-loop
 μ-loop scheme m i q most odd holes k₀ k = m - k
@@ -22,17 +23,19 @@ returns c = λ e. absurd (true≢false (sym e))
 loop-again : tie.Need-loop-again Inv-loop μ-loop
 loop-again c =
     let at = c .before .before .before .before .before .before .before .before in
-    let tables = at .before .fill .ensures in
     let s = at .before .before .before .before .before .before in
     let look = c .before .sized .ensures (not-false (c .before .sized .result) (c .if1 .left)) in
-    (omega arith, clean-more (s .pre .0) (tables .0) (tables .1) (tables .2) (s .args .i .now) (s .args .q .now) (at .loop .k) look (at .loop .inv .1))
+    (omega arith, clean-more _ (s .args .i .now) (s .args .q .now) (at .loop .k) look (at .loop .inv .1))
 
 returns-2 : tie.Need-returns-2 Inv-loop μ-loop
 returns-2 c = λ e.
     let at = c .before in
+    let tables = at .before .fill .ensures in
     let s = at .before .before .before .before .before .before in
     let whole : at .loop .k ≡ s .args .m = omega arith in
-    clean-all (s .pre .0) (s .args .m) (s .args .i .now) (s .args .q .now) (subst (Clean (s .args .scheme .now) (s .args .i .now) (s .args .q .now)) whole (at .loop .inv .1))
+    let left = at .before .fill .last .1 in
+    sized-all (s .pre .0) (left .0) (left .1 .0) (left .1 .1 .0) (tables .0) (tables .1) (tables .2) (s .args .m) (s .args .i .now) (s .args .q .now)
+    (subst (Clean _ (s .args .i .now) (s .args .q .now)) whole (at .loop .inv .1))
 
 pub all-sized-spec : {M : Type 1} → statement M
 all-sized-spec =

@@ -1,8 +1,8 @@
--- `sender_a::phases::turn_bits` meets its contract: what is written so far, then the levels of what is left of the bits.
+-- `symbols::phases::turn_bits` meets its contract: what is written so far, then the levels of what is left of the bits.
 -- Assumes nothing.
 use mathlib.Core.Path.{_≡_, refl, sym, _∙_}
 use mathlib.Core.List.{List, _∷_, _++_, append-nil, append-assoc}
-use Prim.Native.Nat.{ℕ, suc, _+_, _-_, _*_, _≤_, _<_}
+use Prim.Native.Nat.{ℕ, suc, _+_, _-_, _*_, _%_, _≤_, _<_}
 use native.Mathlib.Omega.{arith}
 use native.Mathlib.Numerals.{add-one}
 use lib.IntN.{ℤ}
@@ -11,15 +11,16 @@ use lib.Seq.{take-all, take-suc-set, drop-cons}
 use mir.Syntax.{w16}
 use mir.Val.{SFits, toZ, ofZ}
 use mir.ValLaws.{toZ-ofZ}
-use Rattle.bits.proofs.Digits.{bits-at}
+use Rattle.bits.specs.Words.{lowest}
+use Rattle.bits.proofs.Digits.{length-lowest, lowest-at}
 use Rattle.points.specs.declared.Point.{Point}
 use Rattle.points.specs.Constellations.{levelI, levelQ}
 use Rattle.points.specs.Dqpsk.{turn, phasePoint, turnedFrom}
-use Rattle.sender_a.specs.declared.phases.Turned.{Turned}
-use Rattle.sender_a.specs.Phases.{phaseAfter, turnedOn}
+use Rattle.symbols.specs.declared.phases.Turned.{Turned}
+use Rattle.symbols.specs.ByPhase.{phaseAfter, turnedOn}
 use borrow.Author.Needs.{needs}
-use Rattle.sender_a.proofs.phases.turn_bits.Statement.{statement}
-use Rattle.sender_a.proofs.phases.turn_bits.Tie as tie
+use Rattle.symbols.proofs.phases.turn_bits.Statement.{statement}
+use Rattle.symbols.proofs.phases.turn_bits.Tie as tie
 
 -- what is written, and behind it what the bits that are left are turned into
 abbrev soFar : List ℕ → List ℤ → List ℤ → ℕ → ℕ → Turned
@@ -28,44 +29,42 @@ soFar bits is qs last s =
     record { is = take s is ++ rest .is; qs = take s qs ++ rest .qs; last = rest .last }
 
 module _ (bits : List ℕ) (is qs : List ℤ) (last s : ℕ) where
-  -- one turn: two more bits
-  next : (to : ℕ) (point : Point) (i q : ℤ) → 2 * s + 1 < length bits → s < length is → s < length qs
-      → to ≡ turn last (2 * getD bits (2 * s) 0 + getD bits (2 * s + 1) 0) → point ≡ phasePoint to → i ≡ levelI point → q ≡ levelQ point
-      → SFits w16 i → SFits w16 q → soFar bits (set is s (toZ w16 (ofZ w16 i))) (set qs s (toZ w16 (ofZ w16 q))) to (s + 1) ≡ soFar bits is qs last s
-  unfolding turnedFrom phaseAfter
-  next to point i q room hi hq et ep ei eq fi fq =
+  -- the two bits of a turn, and those behind them
+  two : 2 * s + 1 < length bits → drop (2 * s) (lowest bits) ≡ getD bits (2 * s) 0 % 2 ∷ (getD bits (2 * s + 1) 0 % 2 ∷ drop (2 * (s + 1)) (lowest bits))
+  two room =
       let one : suc (2 * s) ≡ 2 * s + 1 = omega arith in
       let both : suc (2 * s + 1) ≡ 2 * (s + 1) = omega arith in
-      let two : drop (2 * s) bits ≡ getD bits (2 * s) 0 ∷ (getD bits (2 * s + 1) 0 ∷ drop (2 * (s + 1)) bits)
-      = rw (drop-cons bits (2 * s) 0 (omega arith), one, drop-cons bits (2 * s + 1) 0 room, both) in
-      rw (toZ-ofZ w16 i fi, toZ-ofZ w16 q fq, ei, eq, ep, et, two, add-one s)
+      let long = length-lowest bits in
+      let first = drop-cons (lowest bits) (2 * s) 0 (omega (arith, long)) in
+      let second = drop-cons (lowest bits) (2 * s + 1) 0 (omega (arith, long)) in
+      rw (first, one, second, both, lowest-at bits (2 * s), lowest-at bits (2 * s + 1))
+
+  -- one turn: two more bits
+  next : (to : ℕ) (point : Point) (i q : ℤ) → 2 * s + 1 < length bits → s < length is → s < length qs
+      → to ≡ turn last (2 * (getD bits (2 * s) 0 % 2) + getD bits (2 * s + 1) 0 % 2) → point ≡ phasePoint to → i ≡ levelI point → q ≡ levelQ point
+      → SFits w16 i → SFits w16 q
+      → soFar (lowest bits) (set is s (toZ w16 (ofZ w16 i))) (set qs s (toZ w16 (ofZ w16 q))) to (s + 1) ≡ soFar (lowest bits) is qs last s
+  unfolding turnedFrom phaseAfter
+  next to point i q room hi hq et ep ei eq fi fq =
+      rw (toZ-ofZ w16 i fi, toZ-ofZ w16 q fq, ei, eq, ep, et, two room, add-one s)
       (rw (take-suc-set is s _ hi, take-suc-set qs s _ hq, append-assoc (take s is), append-assoc (take s qs)))
 
   -- no bits are left
-  done : length bits ≤ 2 * s → length is ≤ s → length qs ≤ s → soFar bits is qs last s ≡ record { is = is; qs = qs; last = last }
+  done : length bits ≤ 2 * s → length is ≤ s → length qs ≤ s → soFar (lowest bits) is qs last s ≡ record { is = is; qs = qs; last = last }
   unfolding turnedFrom phaseAfter
-  done none hi hq = rw (drop-of-length-le bits none, take-all s is hi, take-all s qs hq, append-nil is, append-nil qs)
+  done none hi hq =
+      let past : length (lowest bits) ≤ 2 * s = omega (arith, length-lowest bits) in
+      rw (drop-of-length-le (lowest bits) past, take-all s is hi, take-all s qs hq, append-nil is, append-nil qs)
 
 abbrev Inv-loop : tie.InvT-loop
-Inv-loop phase bits is₀ qs₀ last₀ s₀ is qs last s = (s ≤ 210) × (length is ≡ 210) × (length qs ≡ 210) × (soFar bits is qs last s ≡ turnedOn phase bits)
+Inv-loop phase bits is₀ qs₀ last₀ s₀ is qs last s =
+    (s ≤ 210) × (length is ≡ 210) × (length qs ≡ 210) × (soFar (lowest bits) is qs last s ≡ turnedOn phase (lowest bits))
 
 abbrev μ-loop : tie.MeasureT-loop
 μ-loop phase bits is₀ qs₀ last₀ s₀ is qs last s = 210 - s
 
 loop-holds : tie.Need-loop-holds Inv-loop μ-loop
 loop-holds c = (omega arith, refl, refl, refl)
-
-mul-turned-2 : tie.Need-mul-turned-2 Inv-loop μ-loop
-mul-turned-2 c =
-    let start = c .before .before .before .before in
-    omega (arith, bits-at (start .args .bits .now) (start .pre .0) (2 * c .before .before .loop .s))
-
-add-turned-2 : tie.Need-add-turned-2 Inv-loop μ-loop
-add-turned-2 c =
-    let start = c .before .before .before .before .before in
-    let bit = bits-at (start .args .bits .now) (start .pre .0) in
-    let s = c .before .before .before .loop .s in
-    omega (arith, bit (2 * s), bit (2 * s + 1))
 
 loop-again : tie.Need-loop-again Inv-loop μ-loop
 loop-again c =
@@ -97,11 +96,11 @@ turn-bits-spec =
     loop-holds
     (λ c. search needs)
     (λ c. search needs)
-    mul-turned-2
     (λ c. search needs)
     (λ c. search needs)
     (λ c. search needs)
-    add-turned-2
+    (λ c. search needs)
+    (λ c. search needs)
     (λ c κs. search needs)
     (λ c κs. search needs)
     (λ c κs. search needs)
