@@ -1,5 +1,6 @@
 //! What a job answers: its counts, the worst block's of request 8 among them, and the mended places of request 10; or a
-//! refusal with a number and a place. The numbers are document 01's 1 to 10, and request 3's 11.
+//! refusal with a number and a place. The numbers are document 01's 1 to 10, request 3's 11, and 16 for a state of a
+//! stream that no stream has.
 
 /// Why a job was refused. The cases stand in the order of their numbers, not in the order of the checks.
 #[derive(Clone, Copy, Debug, PartialEq, Eq)]
@@ -26,13 +27,36 @@ pub enum Refusal {
     WrongCheck,
     /// More than 12 of the 56 protected bits of Payload A differ.
     Noise,
+    /// No opening and no steps of a stream give this state.
+    Forged,
 }
 
-/// How many numbers there are, with 0 for accepted.
+/// How many numbers the jobs 1 to 6 have, with 0 for accepted.
 pub const NUMBERS: usize = 12;
 
 impl Refusal {
-    /// Its number, 1 to 11.
+    /// The refusal of this number and place, if there is one: where no place is named, only 0 will do.
+    pub fn of(number: u8, place: u64) -> Option<Refusal> {
+        let p = place as usize;
+        let refusal = match number {
+            1 => Refusal::Unknown,
+            2 => Refusal::WrongLength,
+            3 => Refusal::NoRoom,
+            4 => Refusal::NotABit(p),
+            5 => Refusal::BadScheme(p),
+            6 => Refusal::TooManySymbols,
+            7 => Refusal::Filled(p),
+            8 => Refusal::Stray(p),
+            9 => Refusal::Hopeless(p),
+            10 => Refusal::WrongCheck,
+            11 => Refusal::Noise,
+            16 => Refusal::Forged,
+            _ => return None,
+        };
+        (refusal.place() == place).then_some(refusal)
+    }
+
+    /// Its number, 1 to 11, or 16.
     pub fn number(self) -> u8 {
         match self {
             Refusal::Unknown => 1,
@@ -46,6 +70,7 @@ impl Refusal {
             Refusal::Hopeless(_) => 9,
             Refusal::WrongCheck => 10,
             Refusal::Noise => 11,
+            Refusal::Forged => 16,
         }
     }
 
@@ -123,6 +148,17 @@ mod tests {
         assert_eq!(Refusal::WrongCheck.place(), 0);
         assert_eq!(Refusal::Noise.number() as usize, NUMBERS - 1);
         assert_eq!(Refusal::Noise.place(), 0);
+    }
+
+    #[test]
+    fn refusals_by_number_and_place() {
+        for (number, place) in (0..=255).flat_map(|number| [0, 1, 210, u64::MAX].map(|place| (number, place))) {
+            let named = matches!(number, 4 | 5 | 7 | 8 | 9);
+            let plain = matches!(number, 1 | 2 | 3 | 6 | 10 | 11 | 16) && place == 0;
+            let refusal = Refusal::of(number, place);
+            assert_eq!(refusal.is_some(), named || plain);
+            assert!(refusal.is_none_or(|refusal| (refusal.number(), refusal.place()) == (number, place)));
+        }
     }
 
     #[test]

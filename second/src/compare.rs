@@ -6,8 +6,9 @@
 use crate::answer::MOST_PLACES;
 use crate::hostile;
 use crate::rng::Rng;
+use crate::state_b::State;
 use crate::tally::Tally;
-use crate::trial::{response, Request, JOBS, MOST_BYTES, MOST_POINTS};
+use crate::trial::{response, Count, Request, MOST_BYTES, MOST_POINTS, OF_B};
 use std::io::{self, Read, Write};
 use std::process::{Command, Stdio};
 use std::thread;
@@ -149,7 +150,7 @@ fn ending(rng: &mut Rng) -> Vec<u8> {
     let good = Request::Encode { code: 9, word: vec![1; 5], out: vec![2; 5] }.to_bytes();
     let (bytes, points) = (vec![1; MOST_BYTES + 1], vec![1; MOST_POINTS + 1]);
     let (none, few) = (vec![], vec![]);
-    match rng.below(8) {
+    match rng.below(10) {
         0 => vec![],
         1 => {
             // In the place of a job byte, or before one.
@@ -164,13 +165,23 @@ fn ending(rng: &mut Rng) -> Vec<u8> {
         4 => [Request::Decode { code: 1, word: bytes, out: few }.to_bytes(), good].concat(),
         5 => [Request::Decode { code: 1, word: few, out: bytes }.to_bytes(), good].concat(),
         6 => [Request::SendA { mode: 1, frame: few, i: points, q: none }.to_bytes(), good].concat(),
-        _ => [Request::ReceiveA { mode: 1, i: none, q: points, area: few }.to_bytes(), good].concat(),
+        7 => [Request::ReceiveA { mode: 1, i: none, q: points, area: few }.to_bytes(), good].concat(),
+        8 => {
+            let state = vec![0; rng.pick(&[0, 1, 325, 327, 652])];
+            [Request::StepB { state, i: none.clone(), q: none, area: few }.to_bytes(), good].concat()
+        }
+        _ => {
+            // Cut in the fields of its opening. A stream that is cut in its calls may be answered in part.
+            let opening = Request::StreamB { mode: 0, length: 1, scheme: vec![2; 210], area: few, calls: vec![] };
+            let whole = opening.to_bytes();
+            whole[..rng.between(1, whole.len() - 9)].to_vec()
+        }
     }
 }
 
 /// A request in a line: its job, and the lengths of its lists.
 pub fn described(request: &Request) -> String {
-    let job = JOBS[request.job() as usize - 1];
+    let job = request.name();
     match request {
         Request::Encode { code, word, out } | Request::Decode { code, word, out } => {
             format!("{job}, code {code}, word of {}, out of {}", word.len(), out.len())
@@ -189,19 +200,47 @@ pub fn described(request: &Request) -> String {
             let lists = format!("I of {}, Q of {}, area of {}", i.len(), q.len(), area.len());
             format!("{job}, mode {mode}, frame length {length}, scheme of {}, {lists}", scheme.len())
         }
+        Request::StreamB { mode, length, scheme, area, calls } => {
+            let lists = format!("scheme of {}, area of {}", scheme.len(), area.len());
+            format!("{job}, mode {mode}, frame length {length}, {lists}, {} calls", calls.len())
+        }
+        Request::StepB { state, i, q, area } => {
+            let state = State::of_bytes(state).map_or("no state".to_string(), |state| state.to_string());
+            format!("{job}, {state}, I of {}, Q of {}, area of {}", i.len(), q.len(), area.len())
+        }
     }
 }
 
 /// Both heads, and the first byte where the responses part.
 pub(crate) fn difference(request: &Request, expected: &[u8], got: &[u8]) -> String {
     let at = expected.iter().zip(got).position(|(e, g)| e != g).unwrap_or(got.len().min(expected.len()));
-    let heads = format!("  expected {}\n  got      {}", head(request, expected), head(request, got));
+    let mut heads = format!("  expected {}\n  got      {}", head(request, expected), head(request, got));
+    if let Some((number, begin)) = call_at(request, at) {
+        let call = |response: &[u8]| head_of(&eights_of(&OF_B), response.get(begin..).unwrap_or_default());
+        heads +=
+            &format!("\n  expected of call {number} {}\n  got      of call {number} {}", call(expected), call(got));
+    }
     format!("{heads}\n  of {} bytes, {} came; first difference at {}", expected.len(), got.len(), part(request, at))
 }
 
 /// What a job's response has after its number, eight bytes each: the place, and its counts.
 fn eights(request: &Request) -> Vec<&'static str> {
-    ["place"].into_iter().chain(request.counts().iter().map(|(name, _)| *name)).collect()
+    eights_of(request.counts())
+}
+
+fn eights_of(counts: &[Count]) -> Vec<&'static str> {
+    ["place"].into_iter().chain(counts.iter().map(|(name, _)| *name)).collect()
+}
+
+/// The call of a stream whose answer the byte at an offset belongs to: its number, and where its answer begins.
+fn call_at(request: &Request, at: usize) -> Option<(usize, usize)> {
+    let Request::StreamB { area, calls, .. } = request else {
+        return None;
+    };
+    let opening = 1 + 8 * eights(request).len();
+    let each = 1 + 8 * eights_of(&OF_B).len() + 4 + area.len();
+    let number = at.checked_sub(opening)? / each;
+    (number < calls.len()).then_some((number, opening + number * each))
 }
 
 /// The lists of mended places that it has after them.
@@ -211,14 +250,8 @@ fn lists_of_places(request: &Request) -> &'static [&'static str] {
 
 /// Number, place, counts and lists of mended places of a response, as far as it has them.
 fn head(request: &Request, response: &[u8]) -> String {
-    let Some(number) = response.first() else {
-        return "nothing".to_string();
-    };
-    let mut text = format!("number {number}");
     let eights = eights(request);
-    for (name, eight) in eights.iter().zip(response[1..].chunks_exact(8)) {
-        text += &format!(" {name} {}", u64::from_le_bytes(eight.try_into().expect("eight bytes")));
-    }
+    let mut text = head_of(&eights, response);
     let after = response.get(1 + 8 * eights.len()..).unwrap_or_default();
     for (name, list) in lists_of_places(request).iter().zip(after.chunks_exact(2 * MOST_PLACES)) {
         let places: Vec<u16> = list.chunks(2).map(|two| u16::from_le_bytes([two[0], two[1]])).collect();
@@ -227,8 +260,34 @@ fn head(request: &Request, response: &[u8]) -> String {
     text
 }
 
+/// Number, and the values of these names behind it, as far as it has them.
+fn head_of(eights: &[&str], response: &[u8]) -> String {
+    let Some(number) = response.first() else {
+        return "nothing".to_string();
+    };
+    let mut text = format!("number {number}");
+    for (name, eight) in eights.iter().zip(response[1..].chunks_exact(8)) {
+        text += &format!(" {name} {}", u64::from_le_bytes(eight.try_into().expect("eight bytes")));
+    }
+    text
+}
+
+/// Which part of the answer to a call of a stream the byte at an offset belongs to.
+fn part_of_call(at: usize) -> String {
+    let eights = eights_of(&OF_B);
+    let area = 1 + 8 * eights.len() + 4;
+    match at {
+        0 => "the number".to_string(),
+        _ if at >= area => format!("area[{}]", at - area),
+        _ => format!("in {}", eights.get((at - 1) / 8).unwrap_or(&"the count of area")),
+    }
+}
+
 /// Which part of a response the byte at an offset belongs to.
 fn part(request: &Request, at: usize) -> String {
+    if let Some((number, begin)) = call_at(request, at) {
+        return format!("byte {at}, call {number}, {}", part_of_call(at - begin));
+    }
     if at == 0 {
         return "byte 0, the number".to_string();
     }
@@ -247,6 +306,8 @@ fn part(request: &Request, at: usize) -> String {
         Request::Encode { out, .. } | Request::Decode { out, .. } => vec![("out", 1, out.len())],
         Request::ReceiveA { area, .. } | Request::ReceiveB { area, .. } => vec![("area", 1, area.len())],
         Request::SendA { i, q, .. } | Request::SendB { i, q, .. } => vec![("I", 2, i.len()), ("Q", 2, q.len())],
+        Request::StreamB { .. } => vec![],
+        Request::StepB { state, area, .. } => vec![("state", 1, state.len()), ("area", 1, area.len())],
     };
     for (name, width, count) in lists {
         if at < begin + 4 {
@@ -264,6 +325,7 @@ fn part(request: &Request, at: usize) -> String {
 mod tests {
     use super::*;
     use crate::answer::Counts;
+    use crate::trial::Call;
     use crate::{payload_a, payload_b};
 
     fn compared(script: &str, count: u64) -> (bool, String) {
@@ -347,6 +409,37 @@ mod tests {
             }
             assert!(names.iter().all(|name| !part(&request, 8 * names.len() + 1).ends_with(name)));
         }
+    }
+
+    #[test]
+    fn calls_of_a_stream_are_named() {
+        let call = Call { i: vec![], q: vec![], after: None };
+        let request =
+            Request::StreamB { mode: 0, length: 2, scheme: vec![2; 210], area: vec![5; 3], calls: vec![call; 2] };
+        let expected = answered(request.clone(), &mut Tally::default());
+        // Nine bytes of the opening, and of each call 25 of its answer, the area's count, and its three bytes.
+        assert_eq!(expected.len(), 9 + 2 * 32);
+        for (at, text) in [
+            (0, "byte 0, the number"),
+            (8, "byte 8, in place"),
+            (9, "byte 9, call 0, the number"),
+            (25, "byte 25, call 0, in mended"),
+            (26, "byte 26, call 0, in worst"),
+            (34, "byte 34, call 0, in the count of area"),
+            (40, "byte 40, call 0, area[2]"),
+            (41, "byte 41, call 1, the number"),
+            (42, "byte 42, call 1, in place"),
+            (72, "byte 72, call 1, area[2]"),
+            (73, "byte 73, the end"),
+        ] {
+            assert_eq!(part(&request, at), text);
+        }
+        let mut got = expected.clone();
+        got[42] = 7;
+        let text = difference(&request, &expected, &got);
+        assert!(text.contains("expected of call 1 number 3 place 0 mended 0 worst 0\n"), "{text}");
+        assert!(text.contains("got      of call 1 number 3 place 7 mended 0 worst 0\n"), "{text}");
+        assert!(text.ends_with("byte 42, call 1, in place"), "{text}");
     }
 
     /// The difference that a receiver makes which answers this in the place of the worst.

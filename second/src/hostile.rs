@@ -4,29 +4,40 @@
 //! number, often none or one, sometimes several, so that the order of the checks shows too.
 
 mod bursts;
+mod forged;
 mod frames;
 mod grids;
 mod lent;
 mod strays;
+mod streams;
 mod words;
 
 use crate::rng::Rng;
 use crate::trial::Request;
 
-/// How many of 53 requests each job gets, jobs 1 to 6.
-const SHARES: [usize; 6] = [4, 20, 4, 9, 4, 12];
+/// How many requests each job gets: of 53, if they are those of jobs 1 to 6.
+fn share(job: u8) -> usize {
+    match job {
+        2 => 20,
+        4 => 9,
+        6 | 9 | 16 => 12,
+        _ => 4,
+    }
+}
 
 /// The request of this index, of one of these jobs.
 pub fn request(seed: u64, index: u64, jobs: &[u8]) -> Request {
     let mut rng = Rng::of_request(seed, index);
-    let drawn: Vec<u8> = jobs.iter().flat_map(|&job| vec![job; SHARES[job as usize - 1]]).collect();
+    let drawn: Vec<u8> = jobs.iter().flat_map(|&job| vec![job; share(job)]).collect();
     match rng.pick(&drawn) {
         1 => words::encode(&mut rng),
         2 => words::decode(&mut rng),
         3 => bursts::send(&mut rng),
         4 => bursts::receive(&mut rng),
         5 => frames::send(&mut rng),
-        _ => frames::receive(&mut rng),
+        6 => frames::receive(&mut rng),
+        9 => streams::stream(&mut rng),
+        _ => streams::step(&mut rng),
     }
 }
 
@@ -136,6 +147,27 @@ mod tests {
                 assert_eq!(numbers.contains(&number), seen > 0, "job {} number {number}: {seen}", job + 1);
                 assert!(seen == 0 || seen >= 5);
             }
+        }
+    }
+
+    #[test]
+    fn every_answer_of_streams_and_single_steps_comes_often() {
+        let streams = Tally::of(1, 3_000, &[9, 16]).streams;
+        for (row, numbers) in [
+            (0, &[0, 1, 2, 5, 6][..]),
+            (1, &[0, 3, 6, 7, 8, 9]),
+            (2, &[1, 2, 5, 6, 7, 8, 9]),
+            (3, &[0, 1, 2, 3, 5, 6, 7, 8, 9, 16]),
+        ] {
+            for number in 0..=255 {
+                let seen = streams.count(row, number);
+                // A single step repeats any refusal that was written into its state.
+                assert!(numbers.contains(&number) || seen == 0 || (row == 3 && matches!(number, 4 | 10 | 11)));
+                assert!(!numbers.contains(&number) || seen >= 20, "row {row} number {number}: {seen}");
+            }
+        }
+        for (number, part) in [7, 8, 9].into_iter().flat_map(|number| [0, 1, 2].map(|part| (number, part))) {
+            assert!(streams.refused(number, part) >= 10, "number {number}, part {part}");
         }
     }
 

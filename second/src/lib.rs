@@ -1,7 +1,7 @@
 //! The independent second program of Ortkaveq: HiNoC payload coding (ITU-T J.195.2, as document 01 reads it, with the
-//! refusal of noise of request 3, the frame check of request 6, the worst block's count of request 8 and the mended
-//! places of request 10) written a second time, in another language and by other methods than the proved crates, so
-//! that the two can be compared.
+//! refusal of noise of request 3, the stream of request 5, the frame check of request 6, the worst block's count of
+//! request 8 and the mended places of request 10) written a second time, in another language and by other methods than
+//! the proved crates, so that the two can be compared.
 //!
 //! In the order data flows:
 //!
@@ -13,6 +13,7 @@
 //! | `points`, `dqpsk`, `grid` | Annex B as printed and its repairs; Table 1; equation 4 |
 //! | `bits`, `scrambler`, `check` | most significant bit first; clause 6.2; clause 7.4.2, by the rule of request 6 or another |
 //! | `payload_a`, `payload_b` | the two payloads, both directions |
+//! | `stream_b`, `state_b` | Payload B received one OFDM symbol at a time; its state field by field, and any other |
 //! | `trial` | the request and response format of the trial program |
 //! | `again` | total and worst as request 8 defines them: by sending again |
 //! | `rng`, `hostile` | requests from a seed, most of them meant to break something |
@@ -20,6 +21,7 @@
 //! | `largest` | the largest frames of Payload B, and one byte or block more |
 //! | `compare`, `tally`, `numbers` | driving another program; counting refusals; document 01's numbers |
 //! | `earlier` | driving another program across the two rules of the frame check |
+//! | `streamed` | the stream held against the whole form, and against steps from its states |
 //! | `astray` | words with more than t hits that are mended into a codeword that was not sent |
 
 pub mod again;
@@ -43,6 +45,9 @@ pub mod points;
 pub mod poly;
 pub mod rng;
 pub mod scrambler;
+pub mod state_b;
 pub mod stray;
+pub mod stream_b;
+pub mod streamed;
 pub mod tally;
 pub mod trial;

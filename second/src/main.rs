@@ -2,7 +2,7 @@
 
 use second::points::constellation;
 use second::tally::Tally;
-use second::{astray, compare, earlier, field, hostile, largest, numbers, trial};
+use second::{astray, compare, earlier, field, hostile, largest, numbers, streamed, trial};
 use std::io::{self, BufWriter, Write};
 use std::process::ExitCode;
 
@@ -14,11 +14,12 @@ second largest SEED -- COMMAND..                drives a trial program with the 
 second earlier SEED COUNT -- COMMAND..          drives a trial program against the earlier rule of the frame check: each must refuse what the other sends, clean and mended; 'N passed, M failed'
 second one SEED INDEX [JOBS]                    writes the single request of this index
 second tally SEED COUNT [JOBS]                  counts the refusal numbers of each job, their places, what came as far as the decoder, worst blocks, lists of mended places, protected bits that differed, and kinds of stray points
+second streams SEED COUNT                       holds COUNT streams of Payload B against the whole form and against single steps, and COUNT single steps against what a sound state is; 'N passed, M failed'
 second astray SEED COUNT [CODES]                counts words with more than t hits that are refused, and that are mended into another codeword
 second numbers                                  checks document 01's numbers, the frame check's by request 6
 second field                                    writes all products and inverses of GF(512)
 second points                                   writes all points, and the label of every point near them
-JOBS is a string of job digits, such as 2 or 56; without it, 123456. CODES likewise; without it, 123.";
+JOBS is a string of job digits, such as 2 or 56, with 9 for streams and g for 16, single steps; without it, 123456. CODES likewise, of 123; without it, all three.";
 
 fn main() -> ExitCode {
     let args: Vec<String> = std::env::args().skip(1).collect();
@@ -48,6 +49,7 @@ fn run(args: &[String]) -> io::Result<bool> {
             let command = command_alone(rest)?;
             earlier::earlier(number(seed)?, number(count)?, &command, &mut out)?
         }
+        ["streams", seed, count] => streamed::streams(number(seed)?, number(count)?, &mut out)?,
         ["numbers"] => numbers::numbers(&mut out)?,
         _ => match write(&words, &mut out).and_then(|()| out.flush()) {
             // Whoever reads what is only written may stop reading.
@@ -74,7 +76,7 @@ fn write(words: &[&str], out: &mut impl Write) -> io::Result<()> {
             writeln!(out, "{}", Tally::of(number(seed)?, number(count)?, &jobs_of(jobs)?))
         }
         ["astray", seed, count, codes @ ..] => {
-            astray::write(number(seed)?, number(count)?, &digits_of(codes, "123")?, out)
+            astray::write(number(seed)?, number(count)?, &digits_of(codes, "123", "123")?, out)
         }
         ["field"] => write_field(out),
         ["points"] => write_points(out),
@@ -108,22 +110,22 @@ fn number(word: &str) -> io::Result<u64> {
     word.parse().map_err(|_| usage(&format!("{word} is no number")))
 }
 
-/// The jobs of a string of digits; all six if there is none.
+/// The jobs of a string of digits; jobs 1 to 6 if there is none.
 fn jobs_of(words: &[&str]) -> io::Result<Vec<u8>> {
-    digits_of(words, "123456")
+    digits_of(words, "123456", "1234569g")
 }
 
-/// The numbers of a string of digits, each one of these; all of them if there is no string.
-fn digits_of(words: &[&str], all: &str) -> io::Result<Vec<u8>> {
+/// The numbers of a string of digits, each one of these, beyond 9 letters: g is 16. Without a string, some are meant.
+fn digits_of(words: &[&str], without: &str, all: &str) -> io::Result<Vec<u8>> {
     let digits = match words {
-        [] => all,
+        [] => without,
         [digits] => digits,
         _ => return Err(usage("too many words")),
     };
     if digits.is_empty() || !digits.chars().all(|digit| all.contains(digit)) {
         return Err(usage(&format!("{digits}: only digits of {all} are meant")));
     }
-    Ok(digits.bytes().map(|digit| digit - b'0').collect())
+    Ok(digits.chars().filter_map(|digit| digit.to_digit(36)).map(|digit| digit as u8).collect())
 }
 
 /// All products, x outer and y inner, then the inverses, that of 0 being 0: two bytes each, little-endian.

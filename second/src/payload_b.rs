@@ -13,9 +13,9 @@ pub const MOST_SYMBOLS: u128 = 256;
 /// What the checks 1, 2, 5 and 6 find out about a frame.
 pub struct Plan {
     /// The code of the blocks; none in mode 0.
-    code: Option<&'static Code>,
+    pub code: Option<&'static Code>,
     /// Bytes of the frame.
-    length: usize,
+    pub length: usize,
     /// Bits sent for it, without the fill.
     pub coded_bits: usize,
     /// Bits of one OFDM symbol.
@@ -81,13 +81,28 @@ pub fn receive(mode: u8, length: u64, scheme: &[u8], i: &[i16], q: &[i16], area:
 }
 
 impl Plan {
+    /// Bits of a block as sent; in mode 0 a byte is one.
+    pub fn block_bits(&self) -> usize {
+        self.code.map_or(8, |code| code.n)
+    }
+
+    /// Bytes of the frame in a block.
+    pub fn block_bytes(&self) -> usize {
+        self.code.map_or(1, |code| code.k / 8)
+    }
+
+    /// Blocks of the frame.
+    pub fn blocks(&self) -> usize {
+        self.length / self.block_bytes()
+    }
+
     /// The scrambled bits, block by block coded.
     pub fn coded(&self, information: &[u8]) -> Vec<u8> {
         self.code.map_or(information.to_vec(), |code| code.encoded_blocks(information))
     }
 
     /// The scrambled bits again, and the mended places of each block; mode 0 has no blocks.
-    fn decoded(&self, received: &[u8]) -> Result<(Vec<u8>, Vec<Vec<usize>>), Refusal> {
+    pub fn decoded(&self, received: &[u8]) -> Result<(Vec<u8>, Vec<Vec<usize>>), Refusal> {
         self.code.map_or(Ok((received.to_vec(), vec![])), |code| code.mended_blocks(received))
     }
 }

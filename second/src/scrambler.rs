@@ -3,6 +3,8 @@
 //! Each step shifts stage 14 xor stage 15 into stage 1, so stage m holds what was formed m steps ago. The sequence is
 //! therefore z(i) = z(i-14) xor z(i-15), and the stages at the start, bit 15 down to bit 1, are z(-15) .. z(-1).
 
+use std::sync::LazyLock;
+
 /// Stage 15 down to stage 1 before the first bit of each frame.
 const START: &[u8; 15] = b"010010011011000";
 
@@ -13,6 +15,27 @@ pub fn sequence(count: usize) -> Vec<u8> {
         z.push(z[i - 14] ^ z[i - 15]);
     }
     z.split_off(START.len())
+}
+
+/// The length after which the sequence comes again.
+const PERIOD: usize = (1 << START.len()) - 1;
+
+static ONCE: LazyLock<Vec<u8>> = LazyLock::new(|| sequence(PERIOD));
+
+/// The bits of the sequence from a place on, without those before it: by its period.
+fn from_place(place: usize) -> impl Iterator<Item = u8> {
+    ONCE.iter().copied().cycle().skip(place % PERIOD)
+}
+
+/// Bits scrambled, or unscrambled, that stand in their frame from this place on.
+pub fn scrambled_from(place: usize, bits: &[u8]) -> Vec<u8> {
+    bits.iter().zip(from_place(place)).map(|(bit, z)| bit ^ z).collect()
+}
+
+/// The stages after so many bits of a frame, as 15 binary digits: stage 15, the highest, was formed 15 steps ago, and
+/// before the first bit a period ago.
+pub fn stages(place: usize) -> u16 {
+    from_place(place + PERIOD - START.len()).take(START.len()).fold(0, |stages, z| stages << 1 | z as u16)
 }
 
 /// A frame's bits scrambled, or unscrambled: the same thing. The sequence starts anew.
@@ -57,6 +80,25 @@ mod tests {
         let z = sequence(3 * 32_767);
         assert_eq!(z[..32_767], z[32_767..2 * 32_767]);
         assert_eq!(z[..32_767].iter().filter(|&&b| b == 1).count(), 16_384);
+    }
+
+    #[test]
+    fn from_any_place_it_is_the_rest_of_the_sequence() {
+        let z = sequence(70_000);
+        for place in [0, 1, 15, 471, 472, 32_766, 32_767, 32_768, 65_534, 69_000] {
+            assert_eq!(scrambled_from(place, &[0; 1_000]), z[place..place + 1_000]);
+        }
+    }
+
+    #[test]
+    fn stages_are_what_was_formed_last() {
+        assert_eq!(stages(0), 0b010010011011000);
+        assert_eq!(stages(1), 0b100100110110001);
+        let z = sequence(40_000);
+        for place in (15..40_000).step_by(97) {
+            let formed = (1..=15).fold(0, |sum, m| sum | (z[place - m] as u16) << (m - 1));
+            assert_eq!(stages(place), formed);
+        }
     }
 
     #[test]

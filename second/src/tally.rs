@@ -1,10 +1,12 @@
 //! What the requests of a seed bring up: each refusal number of each job and its places; of the words, bursts and
 //! frames that came as far as the decoder, by code or mode, how many, which counts, which blocks were the worst, and
-//! which lists of mended places; the protected bits that differed; and the kinds of stray points.
+//! which lists of mended places; the protected bits that differed; the kinds of stray points; and what streams were
+//! answered.
 
 mod lists;
 pub mod protected;
 mod strays;
+mod streams;
 mod worst;
 
 use crate::answer::{Answer, Refusal, NUMBERS};
@@ -15,6 +17,7 @@ use protected::Protected;
 use std::collections::{BTreeMap, BTreeSet};
 use std::fmt;
 use strays::Strays;
+use streams::Streams;
 use worst::Worst;
 
 #[derive(Default)]
@@ -29,6 +32,8 @@ pub struct Tally {
     pub protected: Protected,
     /// The stray points that were refused.
     pub strays: Strays,
+    /// Jobs 9 and 16, which stand in none of the others.
+    pub streams: Streams,
 }
 
 pub struct Reached {
@@ -63,6 +68,9 @@ impl Tally {
 
     pub fn add(&mut self, request: &Request, answer: &Answer) {
         let job = request.job();
+        if matches!(job, 9 | 16) {
+            return self.streams.add(request, answer);
+        }
         let (number, place) = answer.map_or_else(|refusal| (refusal.number(), refusal.place()), |_| (0, 0));
         self.seen[job as usize - 1][number as usize] += 1;
         self.places[job as usize - 1][number as usize].insert(place);
@@ -121,7 +129,7 @@ impl fmt::Display for Tally {
             }
             write!(f, "{}", reached.lists)?;
         }
-        write!(f, "{}{}", self.protected, self.strays)
+        write!(f, "{}{}{}", self.protected, self.strays, self.streams)
     }
 }
 

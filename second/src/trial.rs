@@ -1,11 +1,17 @@
 //! The trial program's format (the head of crates/trial/src/main.rt): requests in, the calls made, responses out.
 //!
 //! Integers are little-endian. A list is a 4-byte count and its elements, a byte each, or two for a level. Lists of
-//! mended places are always 16 entries of two bytes, with no count. An unknown job, a list too long for its buffer or a
-//! cut request ends the run after the responses so far.
+//! mended places are always 16 entries of two bytes, with no count. An unknown job, a list too long for its buffer, a
+//! state of a wrong length or a cut request ends the run after the responses so far.
+//!
+//! Two jobs are beyond that head's six:
+//!
+//! - 9, stream B: mode (1 byte), frame length (8), scheme, area, count of calls (4), for each call I and Q. The
+//!   response has number and place of the opening, then of each call number, place, mended, worst, the area after it.
+//! - 16, step B: state (a list of 326 bytes), I, Q, area. The response has number, place, mended, worst, state, area.
 
 use crate::answer::{Answer, Counts};
-use crate::{bch, payload_a, payload_b};
+use crate::{bch, payload_a, payload_b, state_b, stream_b};
 use std::io::{self, Read, Write};
 
 /// The longest list of bits, bytes or scheme entries.
@@ -23,6 +29,16 @@ pub enum Request {
     ReceiveA { mode: u8, i: Vec<i16>, q: Vec<i16>, area: Vec<u8> },
     SendB { mode: u8, frame: Vec<u8>, scheme: Vec<u8>, i: Vec<i16>, q: Vec<i16> },
     ReceiveB { mode: u8, length: u64, scheme: Vec<u8>, i: Vec<i16>, q: Vec<i16>, area: Vec<u8> },
+    StreamB { mode: u8, length: u64, scheme: Vec<u8>, area: Vec<u8>, calls: Vec<Call> },
+    StepB { state: Vec<u8>, i: Vec<i16>, q: Vec<i16>, area: Vec<u8> },
+}
+
+/// A call of a stream: an OFDM symbol, and once the call is made, its answer and the area after it.
+#[derive(Clone, Debug, PartialEq, Eq)]
+pub struct Call {
+    pub i: Vec<i16>,
+    pub q: Vec<i16>,
+    pub after: Option<(Answer, Vec<u8>)>,
 }
 
 /// A count of an answer: its name, and its value.
@@ -32,11 +48,14 @@ const MENDED: Count = ("mended", |counts| counts.mended);
 const PROTECTED: Count = ("protected", |counts| counts.protected);
 const WORST: Count = ("worst", |counts| counts.worst);
 
+/// The counts of an answer of Payload B, of each call of a stream too.
+pub const OF_B: [Count; 2] = [MENDED, WORST];
+
 /// The names of jobs 1 to 6.
 pub const JOBS: [&str; 6] = ["encode", "decode", "send A", "receive A", "send B", "receive B"];
 
 impl Request {
-    /// Job 1 to 6.
+    /// Job 1 to 6, 9 or 16.
     pub fn job(&self) -> u8 {
         match self {
             Request::Encode { .. } => 1,
@@ -45,6 +64,17 @@ impl Request {
             Request::ReceiveA { .. } => 4,
             Request::SendB { .. } => 5,
             Request::ReceiveB { .. } => 6,
+            Request::StreamB { .. } => 9,
+            Request::StepB { .. } => 16,
+        }
+    }
+
+    /// The job's name.
+    pub fn name(&self) -> &'static str {
+        match self.job() {
+            9 => "stream B",
+            16 => "step B",
+            job => JOBS[job as usize - 1],
         }
     }
 
@@ -53,7 +83,7 @@ impl Request {
         match self {
             Request::Decode { .. } => &[MENDED],
             Request::ReceiveA { .. } => &[MENDED, PROTECTED, WORST],
-            Request::ReceiveB { .. } => &[MENDED, WORST],
+            Request::ReceiveB { .. } | Request::StepB { .. } => &OF_B,
             _ => &[],
         }
     }
@@ -67,18 +97,21 @@ impl Request {
         }
     }
 
-    /// The code or mode it names.
+    /// The code or mode it names; a state of a stream has it in its bytes.
     pub fn code_or_mode(&self) -> u8 {
         match self {
             Request::Encode { code, .. } | Request::Decode { code, .. } => *code,
             Request::SendA { mode, .. }
             | Request::ReceiveA { mode, .. }
             | Request::SendB { mode, .. }
-            | Request::ReceiveB { mode, .. } => *mode,
+            | Request::ReceiveB { mode, .. }
+            | Request::StreamB { mode, .. } => *mode,
+            Request::StepB { state, .. } => state_b::State::of_bytes(state).map_or(0, |state| state.mode),
         }
     }
 
-    /// Makes the call. The lent lists are left as the call leaves them.
+    /// Makes the call. The lent lists are left as the call leaves them. A stream answers its opening, and each of its
+    /// calls has its own answer then.
     pub fn call(&mut self) -> Answer {
         match self {
             Request::Encode { code, word, out } => bch::encode(*code, word, out),
@@ -89,6 +122,16 @@ impl Request {
             Request::ReceiveB { mode, length, scheme, i, q, area } => {
                 payload_b::receive(*mode, *length, scheme, i, q, area)
             }
+            Request::StreamB { mode, length, scheme, area, calls } => {
+                let mut stream = stream_b::open(*mode, *length, scheme);
+                let opened = stream.refusal.map_or(Ok(Counts::default()), Err);
+                for call in calls {
+                    let answer = stream.step(&call.i, &call.q, area);
+                    call.after = Some((answer, area.clone()));
+                }
+                opened
+            }
+            Request::StepB { state, i, q, area } => state_b::step(state, i, q, area),
         }
     }
 
@@ -128,23 +171,33 @@ impl Request {
                 put_levels(&mut to, q);
                 put_bytes(&mut to, area);
             }
+            Request::StreamB { mode, length, scheme, area, calls } => {
+                to.push(*mode);
+                to.extend(length.to_le_bytes());
+                put_bytes(&mut to, scheme);
+                put_bytes(&mut to, area);
+                to.extend((calls.len() as u32).to_le_bytes());
+                for call in calls {
+                    put_levels(&mut to, &call.i);
+                    put_levels(&mut to, &call.q);
+                }
+            }
+            Request::StepB { state, i, q, area } => {
+                put_bytes(&mut to, state);
+                put_levels(&mut to, i);
+                put_levels(&mut to, q);
+                put_bytes(&mut to, area);
+            }
         }
         to
     }
 }
 
 /// Number, place, the counts that the job has, its lists of mended places, and each lent list of a request after its
-/// call.
+/// call. A stream has no more of its opening, and of each call its answer and the area.
 pub fn response(after: &Request, answer: Answer) -> Vec<u8> {
-    let (number, place, counts) = match answer {
-        Ok(counts) => (0, 0, counts),
-        Err(refusal) => (refusal.number(), refusal.place(), Default::default()),
-    };
-    let mut to = vec![number];
-    to.extend(place.to_le_bytes());
-    for (_, value) in after.counts() {
-        to.extend(value(&counts).to_le_bytes());
-    }
+    let mut to = vec![];
+    let counts = put_answer(&mut to, answer, after.counts());
     for place in counts.places[..after.lists_of_places()].iter().flatten() {
         to.extend(place.to_le_bytes());
     }
@@ -155,8 +208,32 @@ pub fn response(after: &Request, answer: Answer) -> Vec<u8> {
             put_levels(&mut to, i);
             put_levels(&mut to, q);
         }
+        Request::StreamB { calls, .. } => {
+            for (answer, area) in calls.iter().filter_map(|call| call.after.as_ref()) {
+                put_answer(&mut to, *answer, &OF_B);
+                put_bytes(&mut to, area);
+            }
+        }
+        Request::StepB { state, area, .. } => {
+            put_bytes(&mut to, state);
+            put_bytes(&mut to, area);
+        }
     }
     to
+}
+
+/// Number, place, and these counts, which are 0 in a refusal. Gives all that there are.
+fn put_answer(to: &mut Vec<u8>, answer: Answer, which: &[Count]) -> Counts {
+    let (number, place, counts) = match answer {
+        Ok(counts) => (0, 0, counts),
+        Err(refusal) => (refusal.number(), refusal.place(), Counts::default()),
+    };
+    to.push(number);
+    to.extend(place.to_le_bytes());
+    for (_, value) in which {
+        to.extend(value(&counts).to_le_bytes());
+    }
+    counts
 }
 
 /// The whole program: a response for each request, until the input ends or is none.
@@ -171,7 +248,12 @@ pub fn run(from: &mut impl Read, to: &mut impl Write) -> io::Result<()> {
 /// The next request, or none at the end of the input and for anything that is no whole request.
 pub fn read_request(from: &mut impl Read) -> Option<Request> {
     let job = byte(from)?;
-    if !(1..=6).contains(&job) {
+    if job == 16 {
+        let state = bytes(from)?;
+        state_b::State::of_bytes(&state)?;
+        return Some(Request::StepB { state, i: levels(from)?, q: levels(from)?, area: bytes(from)? });
+    }
+    if !matches!(job, 1..=6 | 9) {
         return None;
     }
     let mode = byte(from)?;
@@ -181,7 +263,7 @@ pub fn read_request(from: &mut impl Read) -> Option<Request> {
         3 => Request::SendA { mode, frame: bytes(from)?, i: levels(from)?, q: levels(from)? },
         4 => Request::ReceiveA { mode, i: levels(from)?, q: levels(from)?, area: bytes(from)? },
         5 => Request::SendB { mode, frame: bytes(from)?, scheme: bytes(from)?, i: levels(from)?, q: levels(from)? },
-        _ => Request::ReceiveB {
+        6 => Request::ReceiveB {
             mode,
             length: u64::from_le_bytes(exactly(from)?),
             scheme: bytes(from)?,
@@ -189,7 +271,20 @@ pub fn read_request(from: &mut impl Read) -> Option<Request> {
             q: levels(from)?,
             area: bytes(from)?,
         },
+        _ => Request::StreamB {
+            mode,
+            length: u64::from_le_bytes(exactly(from)?),
+            scheme: bytes(from)?,
+            area: bytes(from)?,
+            calls: calls(from)?,
+        },
     })
+}
+
+/// The calls of a stream, any number of them.
+fn calls(from: &mut impl Read) -> Option<Vec<Call>> {
+    let count = u32::from_le_bytes(exactly(from)?);
+    (0..count).map(|_| Some(Call { i: levels(from)?, q: levels(from)?, after: None })).collect()
 }
 
 fn exactly<const N: usize>(from: &mut impl Read) -> Option<[u8; N]> {
@@ -355,9 +450,48 @@ mod tests {
     }
 
     #[test]
+    fn bytes_of_a_stream_by_hand() {
+        // Five bytes of zeros sent as they are scrambled; a call too short, one that is right, one too many.
+        let (i, q) = hit_b(0, &[0; 5], &[4; 210], &[]);
+        let request = [&[9, 0, 5, 0, 0, 0, 0, 0, 0, 0, 210, 0, 0, 0][..], &[4; 210], &[6, 0, 0, 0], &[9; 6]].concat();
+        let lists = |count: usize| {
+            [&i[..count], &q[..count]].map(|list| {
+                let mut to = vec![];
+                put_levels(&mut to, list);
+                to
+            })
+        };
+        let calls = [lists(255), lists(256), lists(0)].concat().concat();
+        let response = [
+            &[0; 9][..],
+            &[&[3][..], &[0; 24], &[6, 0, 0, 0], &[9; 6]].concat(),
+            &[&[0][..], &[0; 24], &[6, 0, 0, 0, 0, 0, 0, 0, 0, 9]].concat(),
+            &[&[6][..], &[0; 24], &[6, 0, 0, 0, 0, 0, 0, 0, 0, 9]].concat(),
+        ]
+        .concat();
+        assert_eq!(ran(&[&request[..], &[3, 0, 0, 0], &calls].concat()), response);
+        // No calls: the opening alone, here of an unknown mode.
+        assert_eq!(ran(&[&[9, 3][..], &[0; 8], &[0; 4], &[0; 4], &[0; 4]].concat()), [1, 0, 0, 0, 0, 0, 0, 0, 0]);
+    }
+
+    #[test]
+    fn bytes_of_a_step_by_hand() {
+        // A state that holds 9 at place 258, and nothing else that is right.
+        let state = [&[7; 317][..], &[9, 2, 1], &[0; 6]].concat();
+        let request = [&[16, 70, 1, 0, 0][..], &state, &[0; 4], &[0; 4], &[1, 0, 0, 0, 8]].concat();
+        let response = [&[9, 2, 1][..], &[0; 6], &[0; 16], &[70, 1, 0, 0], &state, &[1, 0, 0, 0, 8]].concat();
+        assert_eq!(ran(&request), response);
+        // A list of another length is no state.
+        for length in [0, 1, 325, 327, 512] {
+            let request = Request::StepB { state: vec![0; length], i: vec![], q: vec![], area: vec![] };
+            assert_eq!(ran(&[request.to_bytes(), vec![1, 0, 0, 0, 0, 0, 0, 0, 0, 0]].concat()), []);
+        }
+    }
+
+    #[test]
     fn requests_are_read_as_they_were_written() {
         for index in 0..300 {
-            let request = crate::hostile::request(5, index, &[1, 2, 3, 4, 5, 6]);
+            let request = crate::hostile::request(5, index, &[1, 2, 3, 4, 5, 6, 9, 16]);
             assert_eq!(read_request(&mut &request.to_bytes()[..]), Some(request));
         }
     }
@@ -367,7 +501,7 @@ mod tests {
         let good = Request::Encode { code: 0, word: vec![], out: vec![] }.to_bytes();
         let once = ran(&good);
         assert_eq!(ran(&[]), []);
-        for job in (0..=255).filter(|job| !(1..=6).contains(job)) {
+        for job in (0..=255).filter(|job| !matches!(job, 1..=6 | 9 | 16)) {
             assert_eq!(ran(&[&good, &[job][..], &good].concat()), once);
         }
         for cut in 1..good.len() {

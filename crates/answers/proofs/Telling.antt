@@ -8,7 +8,7 @@ use lib.Dec.{eqb}
 use Rattle.answers.specs.Answers.{accepted, refused, because, ofWritten, ofDecoded, ofReceivedA, ofReceivedB, ToldWord, ofWord, ToldBurst, ofBurst}
 use Rattle.answers.specs.Checks.{Checked}
 use Rattle.answers.specs.declared.Refusal.{Refusal}
-use Rattle.answers.specs.declared.Refusal.the-variants.{Unknown, WrongLength, NoRoom, NotABit, BadScheme, TooManySymbols, Occupied, StrayPoint, Uncorrectable, WrongCheck, Noise}
+use Rattle.answers.specs.declared.Refusal.the-variants.{Unknown, WrongLength, NoRoom, NotABit, BadScheme, TooManySymbols, Occupied, StrayPoint, Uncorrectable, WrongCheck, Noise, Forged}
 use Rattle.answers.specs.declared.Told.{Told}
 use Rattle.answers.specs.declared.Written.{Written}
 use Rattle.answers.specs.declared.Written.the-variants as written
@@ -26,7 +26,8 @@ pub refusalOf : Told → Refusal
 refusalOf t =
     cond (eqb (t .number) 1) Unknown (cond (eqb (t .number) 2) WrongLength (cond (eqb (t .number) 3) NoRoom (cond (eqb (t .number) 4) (NotABit (t .place))
     (cond (eqb (t .number) 5) (BadScheme (t .place)) (cond (eqb (t .number) 6) TooManySymbols (cond (eqb (t .number) 7) (Occupied (t .place))
-    (cond (eqb (t .number) 8) (StrayPoint (t .place)) (cond (eqb (t .number) 9) (Uncorrectable (t .place)) (cond (eqb (t .number) 10) WrongCheck Noise)))))))))
+    (cond (eqb (t .number) 8) (StrayPoint (t .place)) (cond (eqb (t .number) 9) (Uncorrectable (t .place)) (cond (eqb (t .number) 10) WrongCheck
+    (cond (eqb (t .number) 11) Noise Forged))))))))))
 
 pub refusal-of : (r : Refusal) → refusalOf (because r) ≡ r
 unfolding refusalOf
@@ -41,6 +42,7 @@ refusal-of (StrayPoint i) = refl
 refusal-of (Uncorrectable i) = refl
 refusal-of WrongCheck = refl
 refusal-of Noise = refl
+refusal-of Forged = refl
 
 -- only what is accepted has number 0
 pub numbered : (r : Refusal) → eqb (because r .number) 0 ≡ false
@@ -55,6 +57,7 @@ numbered (StrayPoint i) = refl
 numbered (Uncorrectable i) = refl
 numbered WrongCheck = refl
 numbered Noise = refl
+numbered Forged = refl
 
 numbered-not : (r : Refusal) → because r .number ≡ 0 → ⊥
 numbered-not r e =
@@ -78,6 +81,7 @@ because-is (StrayPoint i) = refl
 because-is (Uncorrectable i) = refl
 because-is WrongCheck = refl
 because-is Noise = refl
+because-is Forged = refl
 
 -- ---- each kind of answer, out of what it tells
 

@@ -1,12 +1,12 @@
--- Number, place and counts for each answer (document 01, "Refusal numbers"; document 02: 11, item 3; the worst block's count, item 8). In a refusal all counts
--- are 0, and so is a count that the job does not have.
+-- Number, place and counts for each answer (document 01, "Refusal numbers"; document 02: 11, item 3; the worst block's count, item 8; 16, a state of a stream
+-- that no opening and no steps give, is ours). In a refusal all counts are 0, and so is a count that the job does not have.
 -- Of a word and of a burst also the places mended (document 02, item 10). In a refusal there are none.
 -- Assumes nothing.
 use mathlib.Core.List.{List, [], _++_}
 use Prim.Native.Nat.{ℕ, _-_}
 use lib.ListN.{length, replicate}
 use Rattle.answers.specs.declared.Refusal.{Refusal}
-use Rattle.answers.specs.declared.Refusal.the-variants.{Unknown, WrongLength, NoRoom, NotABit, BadScheme, TooManySymbols, Occupied, StrayPoint, Uncorrectable, WrongCheck, Noise}
+use Rattle.answers.specs.declared.Refusal.the-variants.{Unknown, WrongLength, NoRoom, NotABit, BadScheme, TooManySymbols, Occupied, StrayPoint, Uncorrectable, WrongCheck, Noise, Forged}
 use Rattle.answers.specs.declared.Told.{Told}
 use Rattle.answers.specs.declared.Written.{Written}
 use Rattle.answers.specs.declared.Written.the-variants as written
@@ -39,6 +39,7 @@ because (StrayPoint i) = refused 8 i
 because (Uncorrectable i) = refused 9 i
 because WrongCheck = refused 10 0
 because Noise = refused 11 0
+because Forged = refused 16 0
 
 -- what encode, send A and send B tell
 abbrev pub ofWritten : Written → Told

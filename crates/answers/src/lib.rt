@@ -3,7 +3,7 @@
 ghost use mathlib.Core.Path.{_≡_};
 ghost use Rattle.answers.specs.Answers.{accepted, refused, because, ofWritten, ofDecoded, ofReceivedA, ofReceivedB, noWord, noBurst};
 
-// Why a word, a frame or a grid is refused, in the order of the numbers: document 01's, and document 02's behind them.
+// Why a word, a frame, a grid or a state is refused, in the order of the numbers: document 01's, document 02's behind them, and 16, which is ours.
 pub enum Refusal {
     Unknown,
     WrongLength,
@@ -16,6 +16,7 @@ pub enum Refusal {
     Uncorrectable(usize),
     WrongCheck,
     Noise,
+    Forged,
 }
 
 // What encode, send A and send B answer.
@@ -131,6 +132,7 @@ pub fn of_refusal(why: Refusal) -> Told
         Refusal::Uncorrectable(block) => refused(9, block),
         Refusal::WrongCheck => refused(10, 0),
         Refusal::Noise => refused(11, 0),
+        Refusal::Forged => refused(16, 0),
     }
 }
 

@@ -12,3 +12,5 @@ pub mod Fronts
 pub mod Sides
 pub mod Runs
 pub mod Once
+pub mod Wordings
+pub mod Endings

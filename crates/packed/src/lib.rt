@@ -5,9 +5,9 @@ ghost use mathlib.Core.Bool.{cond};
 ghost use mathlib.Core.List.{_++_, zipWith};
 ghost use Prim.Native.Nat.{ℕ, _+_, _-_, _*_, _/_, _%_, _<_, _≤_, min};
 ghost use lib.Bits.{bitXor};
-ghost use lib.Dec.{leb};
+ghost use lib.Dec.{eqb, leb};
 ghost use lib.ListN.{length, take, drop, getD, set, replicate};
-ghost use Rattle.bits.specs.Words.{lowest, digits};
+ghost use Rattle.bits.specs.Words.{lowest, digits, differ};
 ghost use Rattle.packed.specs.Packed.{bitsFrom, bits512, padded};
 ghost use Rattle.packed.specs.Sides.{beside};
 
@@ -72,6 +72,22 @@ pub fn first(words: &[u64; 8], n: usize) -> [u64; 8]
         w += 1;
     }
     out
+}
+
+// Whether there are zeros alone behind the first n of the bits of eight machine words.
+pub fn ends_at(words: &[u64; 8], n: usize) -> bool
+    ensures { λ r. ⌜ r ≡ eqb (differ (bits512 (now (words .entry))) (padded (take n (bits512 (now (words .entry)))))) 0 ⌝ }
+{
+    let kept = first(words, n);
+    let mut k: usize = 0;
+    while k < 8 {
+        // by word_at: the check then knows that it is below 2^64
+        if kept[k] != word_at(words, k) {
+            return false;
+        }
+        k += 1;
+    }
+    true
 }
 
 // 512 bits of machine words, from the place `at` on; behind the last machine word there are zeros.

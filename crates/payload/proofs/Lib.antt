@@ -2,6 +2,7 @@
 pub mod LineQuality
 pub mod Scrambling
 pub mod Forming
+pub mod Periods
 pub mod Turns
 pub mod Writing
 pub mod Packing

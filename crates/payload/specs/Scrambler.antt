@@ -29,3 +29,8 @@ scrambled bs = scrambledFrom start bs
 unfoldable pub registerAfter : ℕ → ℕ → ℕ
 registerAfter zero register = register
 registerAfter (suc n) register = registerAfter n (shifted register)
+
+-- n registers, the first this one, each 128 bits after the one before
+unfoldable pub registersFrom : ℕ → ℕ → List ℕ
+registersFrom zero register = []
+registersFrom (suc n) register = register ∷ registersFrom n (registerAfter 128 register)

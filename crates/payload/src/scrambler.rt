@@ -67,14 +67,14 @@ pub struct Scrambled {
 }
 
 // Fourteen formed bits.
-fn form14(register: u16) -> u16
+pub(crate) fn form14(register: u16) -> u16
     ensures { λ k. ⌜ (digits 14 k ≡ scrambledFrom register (replicate 14 0)) × (k < 0x4000) ⌝ }
 {
     (register ^ register >> 1) % 0x4000
 }
 
 // Fourteen formed bits are shifted in.
-fn shift14(register: u16) -> u16
+pub(crate) fn shift14(register: u16) -> u16
     ensures { λ r. ⌜ r ≡ registerAfter 14 register ⌝ }
 {
     register % 2 * 0x4000 + form14(register)

@@ -6,7 +6,7 @@ use mathlib.Core.List.{List, [], _∷_, _++_, append-nil, append-assoc}
 use Prim.Native.Nat.{ℕ, zero, suc, _+_, _*_, _%_, _≤_, _<_}
 use native.Mathlib.Decide.{ℕ-discrete}
 use native.Mathlib.Omega.{arith}
-use native.Mathlib.Nat.{mul-zero, mul-div-cancel-left, zero-div}
+use native.Mathlib.Nat.{mul-zero, mul-one, mul-add, zero-add, suc-add, mul-div-cancel-left, zero-div}
 use lib.ListN.{length, take, drop, length-append, length-drop, take-append-drop}
 use lib.Seq.{take-all, take-at, drop-at, drop-drop, take-append-le, drop-append-le, length-take-le}
 use Rattle.bits.specs.Words.{Bits}
@@ -14,12 +14,12 @@ use Rattle.bits.specs.Bytes.{bitsOf}
 use Rattle.bits.proofs.Digits.{bits-take, bits-drop, bits-append}
 use Rattle.bits.proofs.Octets.{length-bitsOf, bits-bitsOf, bitsOf-append, bitsOf-inj}
 use Rattle.bch.specs.Codes.{Codeword}
-use Rattle.payload.specs.Scrambler.{start, scrambledFrom, scrambled, registerAfter}
+use Rattle.payload.specs.Scrambler.{start, scrambledFrom, registerAfter}
 use Rattle.payload.specs.Wire.{blockAt}
 use Rattle.payload.proofs.Scrambling.{length-scrambled, bits-scrambled, scrambled-append, scrambled-inj}
 use Rattle.payload.proofs.Wires as wires
-use Rattle.payload_b.specs.CodedB.{blockBytes, blockBits, codeB, blockOf, blocksOf, blocksIn, codedB, bitsFor}
-use Rattle.payload_b.specs.PromiseB.{wireB}
+use Rattle.payload_b.specs.CodedB.{blockBytes, blockBits, codeB, blockOf, blocksOf, blocksIn, codedFrom, codedB, bitsFor}
+use Rattle.payload_b.specs.PromiseB.{wireFrom}
 use Rattle.payload_b.proofs.Plans.{whole-blocks}
 use Rattle.payload_b.proofs.Blocks.{block-bytes-pos, coded, block-codeword, blockOf-long, block-front, blockOf-bits}
 
@@ -54,17 +54,21 @@ module _ (mode : ℕ) where
     unfolding blocksOf
     others-are = drop-at (blockOf mode (take size bits)) (blocksOf mode m (drop size bits)) (blockBits mode) (blockOf-long mode (take size bits) front-long)
 
-  -- one block more
-  blocks-more : (m : ℕ) (bits more : List ℕ) → length bits ≡ size * m → length more ≡ size
-      → blocksOf mode (suc m) (bits ++ more) ≡ blocksOf mode m bits ++ blockOf mode more
+  -- blocks, and blocks behind them
+  blocks-append : (m k : ℕ) (bits more : List ℕ) → length bits ≡ size * m → blocksOf mode (m + k) (bits ++ more) ≡ blocksOf mode m bits ++ blocksOf mode k more
   unfolding blocksOf
-  blocks-more zero [] more e l = ap (λ (w : List ℕ). blockOf mode w ++ []) (take-all size more (omega arith)) ∙ append-nil (blockOf mode more)
-  blocks-more zero (b ∷ bits) more e l = absurd (omega arith)
-  blocks-more (suc m) bits more e l =
+  blocks-append zero k [] more e = ap (λ (n : ℕ). blocksOf mode n more) (zero-add k)
+  blocks-append zero k (b ∷ bits) more e = absurd (omega arith)
+  blocks-append (suc m) k bits more e =
       let low : size ≤ length bits = omega arith in
-      ap₂ _++_ (ap (blockOf mode) (take-append-le size bits more low))
-      (ap (blocksOf mode (suc m)) (drop-append-le size bits more low) ∙ blocks-more m (drop size bits) more (rest-long m bits e) l)
-      ∙ sym (append-assoc (blockOf mode (take size bits)) (blocksOf mode m (drop size bits)) (blockOf mode more))
+      ap (λ (n : ℕ). blocksOf mode n (bits ++ more)) (suc-add m k)
+      ∙ ap₂ _++_ (ap (blockOf mode) (take-append-le size bits more low))
+      (ap (blocksOf mode (m + k)) (drop-append-le size bits more low) ∙ blocks-append m k (drop size bits) more (rest-long m bits e))
+      ∙ sym (append-assoc (blockOf mode (take size bits)) (blocksOf mode m (drop size bits)) (blocksOf mode k more))
+
+  blocks-one : (bits : List ℕ) → length bits ≡ size → blocksOf mode 1 bits ≡ blockOf mode bits
+  unfolding blocksOf
+  blocks-one bits e = append-nil (blockOf mode (take size bits)) ∙ ap (blockOf mode) (take-all size bits (omega arith))
 
   length-blocks : (m : ℕ) (bits : List ℕ) → length bits ≡ size * m → length (blocksOf mode m bits) ≡ blockBits mode * m
   unfolding blocksOf
@@ -116,74 +120,83 @@ bits-block mode register g = blockOf-bits mode (scrambledFrom register (bitsOf g
 pub blocks-in : (mode m : ℕ) → blocksIn mode (blockBytes mode * m) ≡ m
 blocks-in mode m = mul-div-cancel-left m (block-bytes-pos mode)
 
--- the bits of a frame before they are coded
-frame-bits : (frame : List ℕ) → Bits (scrambled (bitsOf frame))
-unfolding scrambled
-frame-bits frame = bits-scrambled start (bitsOf frame) (bits-bitsOf frame)
+-- ---- what is sent for bytes, from any register
 
-pub bits-codedB : (mode : ℕ) (frame : List ℕ) → Bits (codedB mode frame)
-unfolding codedB
-bits-codedB mode frame = bits-blocks mode (blocksIn mode (length frame)) (scrambled (bitsOf frame)) (frame-bits frame)
+module _ (mode register₀ : ℕ) where
+  -- their bits before they are coded
+  bytes-bits : (frame : List ℕ) → Bits (scrambledFrom register₀ (bitsOf frame))
+  bytes-bits frame = bits-scrambled register₀ (bitsOf frame) (bits-bitsOf frame)
 
--- for no bytes nothing is sent
-pub coded-none : (mode : ℕ) → codedB mode [] ≡ []
-unfolding codedB blocksOf
-coded-none mode = rw (zero-div (blockBytes mode)) refl
+  pub bits-coded : (frame : List ℕ) → Bits (codedFrom mode register₀ frame)
+  unfolding codedFrom
+  bits-coded frame = bits-blocks mode (blocksIn mode (length frame)) (scrambledFrom register₀ (bitsOf frame)) (bytes-bits frame)
 
-module _ (mode m : ℕ) (frame : List ℕ) (long : length frame ≡ blockBytes mode * m) where
-  frame-long : length (scrambled (bitsOf frame)) ≡ 8 * blockBytes mode * m
-  unfolding scrambled
-  frame-long = length-scrambled start (bitsOf frame) ∙ length-bitsOf frame ∙ omega arith
+  -- for no bytes nothing is sent
+  pub coded-none : codedFrom mode register₀ [] ≡ []
+  unfolding codedFrom blocksOf
+  coded-none = rw (zero-div (blockBytes mode)) refl
 
-  frame-blocks : blocksIn mode (length frame) ≡ m
-  frame-blocks = ap (blocksIn mode) long ∙ blocks-in mode m
+  module _ (m : ℕ) (frame : List ℕ) (long : length frame ≡ blockBytes mode * m) where
+    frame-long : length (scrambledFrom register₀ (bitsOf frame)) ≡ 8 * blockBytes mode * m
+    frame-long = length-scrambled register₀ (bitsOf frame) ∙ length-bitsOf frame ∙ omega arith
 
-  coded-blocks : codedB mode frame ≡ blocksOf mode m (scrambled (bitsOf frame))
-  unfolding codedB
-  coded-blocks = ap (λ (k : ℕ). blocksOf mode k (scrambled (bitsOf frame))) frame-blocks
+    frame-blocks : blocksIn mode (length frame) ≡ m
+    frame-blocks = ap (blocksIn mode) long ∙ blocks-in mode m
 
-  pub length-codedB : length (codedB mode frame) ≡ blockBits mode * m
-  length-codedB = ap length coded-blocks ∙ length-blocks mode m (scrambled (bitsOf frame)) frame-long
+    coded-blocks : codedFrom mode register₀ frame ≡ blocksOf mode m (scrambledFrom register₀ (bitsOf frame))
+    unfolding codedFrom
+    coded-blocks = ap (λ (k : ℕ). blocksOf mode k (scrambledFrom register₀ (bitsOf frame))) frame-blocks
 
-  -- what is sent for a frame with one block more: the scrambler runs on
-  pub coded-more : (register : ℕ) → register ≡ registerAfter (8 * length frame) start → (g : List ℕ) → length g ≡ blockBytes mode
-      → codedB mode (frame ++ g) ≡ codedB mode frame ++ blockOf mode (scrambledFrom register (bitsOf g))
-  unfolding codedB scrambled
-  coded-more register carried g lg =
-      let more : blocksIn mode (length (frame ++ g)) ≡ suc m
-      = ap (blocksIn mode) (length-append frame g ∙ ap₂ _+_ long lg ∙ omega arith) ∙ blocks-in mode (suc m) in
-      rw (frame-blocks, more, bitsOf-append frame g, scrambled-append start (bitsOf frame) (bitsOf g), length-bitsOf frame, ← carried)
-      (blocks-more mode m (scrambledFrom start (bitsOf frame)) (scrambledFrom register (bitsOf g)) frame-long (scrambled-long mode register g lg))
+    pub length-coded : length (codedFrom mode register₀ frame) ≡ blockBits mode * m
+    length-coded = ap length coded-blocks ∙ length-blocks mode m (scrambledFrom register₀ (bitsOf frame)) frame-long
 
--- as many bits as blocks need
-pub length-coded : (mode : ℕ) (frame : List ℕ) → length frame % blockBytes mode ≡ 0 → length (codedB mode frame) ≡ bitsFor mode (length frame)
-length-coded mode frame whole = length-codedB mode (blocksIn mode (length frame)) frame (whole-blocks mode (length frame) whole)
+    -- with blocks behind them: the scrambler runs on
+    pub coded-append : (register : ℕ) → register ≡ registerAfter (8 * length frame) register₀ → (k : ℕ) (g : List ℕ) → length g ≡ blockBytes mode * k
+        → codedFrom mode register₀ (frame ++ g) ≡ codedFrom mode register₀ frame ++ codedFrom mode register g
+    unfolding codedFrom
+    coded-append register carried k g lg =
+        let more : blocksIn mode (length (frame ++ g)) ≡ m + k
+        = ap (blocksIn mode) (length-append frame g ∙ ap₂ _+_ long lg ∙ sym (mul-add (blockBytes mode) m k)) ∙ blocks-in mode (m + k) in
+        let last : blocksIn mode (length g) ≡ k = ap (blocksIn mode) lg ∙ blocks-in mode k in
+        rw (frame-blocks, last, more, bitsOf-append frame g, scrambled-append register₀ (bitsOf frame) (bitsOf g), length-bitsOf frame, ← carried)
+        (blocks-append mode m k (scrambledFrom register₀ (bitsOf frame)) (scrambledFrom register (bitsOf g)) frame-long)
+
+-- for the bytes of one block
+pub coded-one : (mode register : ℕ) (g : List ℕ) → length g ≡ blockBytes mode → codedFrom mode register g ≡ blockOf mode (scrambledFrom register (bitsOf g))
+coded-one mode register g lg =
+    coded-blocks mode register 1 g (lg ∙ sym (mul-one (blockBytes mode))) ∙ blocks-one mode (scrambledFrom register (bitsOf g)) (scrambled-long mode register g lg)
+
+-- a frame is sent in as many bits as its blocks need
+pub length-codedB : (mode : ℕ) (frame : List ℕ) → length frame % blockBytes mode ≡ 0 → length (codedB mode frame) ≡ bitsFor mode (length frame)
+length-codedB mode frame whole = length-coded mode start (blocksIn mode (length frame)) frame (whole-blocks mode (length frame) whole)
 
 -- ---- what is known of the wire
 
-module _ (mode n : ℕ) (known : mode ≤ 2) (whole : n % blockBytes mode ≡ 0) where
+module _ (mode register n : ℕ) (known : mode ≤ 2) (whole : n % blockBytes mode ≡ 0) where
   -- each block of a coded mode is a codeword
-  pub codeword-b : mode ≢ 0 → (f : List ℕ) → length f ≡ n → (b : ℕ) → b < blocksIn mode n → Codeword (codeB mode) (blockAt (blockBits mode) b (codedB mode f))
+  pub codeword-b : mode ≢ 0 → (f : List ℕ) → length f ≡ n → (b : ℕ) → b < blocksIn mode n
+      → Codeword (codeB mode) (blockAt (blockBits mode) b (codedFrom mode register f))
   codeword-b not f e b l =
       let m = blocksIn mode n in
       let long = e ∙ whole-blocks mode n whole in
-      rw (coded-blocks mode m f long) (block-at mode known not m (scrambled (bitsOf f)) (frame-bits f) (frame-long mode m f long) b l)
+      rw (coded-blocks mode register m f long)
+      (block-at mode known not m (scrambledFrom register (bitsOf f)) (bytes-bits mode register f) (frame-long mode register m f long) b l)
 
-  -- and what is sent says which frame it was
-  pub lawful-b : wires.Lawful (wireB mode n)
-  unfolding scrambled
+  -- and what is sent says which bytes they were
+  pub lawful-b : wires.Lawful (wireFrom mode register n)
   lawful-b =
       let m = blocksIn mode n in
       let w = whole-blocks mode n whole in
       record {
         blocks = by (ℕ-discrete mode 0);
-        long = λ f e. length-codedB mode m f (e ∙ w);
+        long = λ f e. length-coded mode register m f (e ∙ w);
         told =
-            λ f g ef eg bf bg e. bitsOf-inj f g bf bg (scrambled-inj start (bitsOf f) (bitsOf g)
-            (blocks-told mode m (scrambled (bitsOf f)) (scrambled (bitsOf g)) (frame-long mode m f (ef ∙ w)) (frame-long mode m g (eg ∙ w))
-            (sym (coded-blocks mode m f (ef ∙ w)) ∙ e ∙ coded-blocks mode m g (eg ∙ w))));
+            λ f g ef eg bf bg e. bitsOf-inj f g bf bg (scrambled-inj register (bitsOf f) (bitsOf g)
+            (blocks-told mode m (scrambledFrom register (bitsOf f)) (scrambledFrom register (bitsOf g)) (frame-long mode register m f (ef ∙ w))
+            (frame-long mode register m g (eg ∙ w))
+            (sym (coded-blocks mode register m f (ef ∙ w)) ∙ e ∙ coded-blocks mode register m g (eg ∙ w))));
       }
     where
-      by : Dec (mode ≡ 0) → wires.Blocks (wireB mode n)
+      by : Dec (mode ≡ 0) → wires.Blocks (wireFrom mode register n)
       by (yes z) = wires.plain (rw z refl)
       by (no not) = let c = coded mode known not in wires.coded mode (codeB mode) (c .code) (sym (c .whole)) (sym (c .mends)) (codeword-b not)

@@ -17,6 +17,7 @@ use Rattle.answers.specs.declared.Written.{Written}
 use Rattle.answers.specs.declared.ReceivedB.{ReceivedB}
 use Rattle.answers.proofs.Telling.{refusalOf, refusal-of, because-is, written-same, received-b-same, by-test}
 use Rattle.symbols.specs.Grids.{received}
+use Rattle.payload.specs.Scrambler.{start}
 use Rattle.payload.specs.Wire.{Fits, FirstHopeless}
 use Rattle.payload.proofs.Wires.{fits-hopeless, one-hopeless}
 use Rattle.payload_b.specs.CodedB.{blockBytes, codeB, blocksIn, bitsFor, symbolsFor}
@@ -99,7 +100,7 @@ module _ (area : List ℕ) (a b : ReceivedB) (u v : List ℕ) where
     not-hopeless : (frame : List ℕ) → Fits (wireB mode n) bits frame → mode ≢ 0 → (block : ℕ) → FirstHopeless (codeB mode) (blocksIn mode n) bits block → ⊥
     not-hopeless frame fits not =
         let c = coded mode (sendable .known) not in
-        fits-hopeless (wireB mode n) (codeB mode) (sym (c .whole)) (sym (c .mends)) (codeword-b mode n (sendable .known) (sendable .whole) not) bits frame fits
+        fits-hopeless (wireB mode n) (codeB mode) (sym (c .whole)) (sym (c .mends)) (codeword-b mode start n (sendable .known) (sendable .whole) not) bits frame fits
 
     answered-same : ReceivesB (passes tt) mode n bits area a u → ReceivesB (passes tt) mode n bits area b v → (a ≡ b) × (u ≡ v)
     answered-same (inl p) (inl q) =

@@ -30,6 +30,7 @@ use Rattle.symbols.specs.Grids.{received, firstOccupied, room}
 use Rattle.symbols.proofs.Rooms.{room-enough}
 use Rattle.symbols.proofs.Readings.{received-take, occupied-take}
 use Rattle.symbols.proofs.Placings.{length-placed, placed-occupied, received-placed}
+use Rattle.payload.specs.Scrambler.{start}
 use Rattle.payload.specs.Wire.{countAt, worstOf, total, worst}
 use Rattle.payload.proofs.Wires.{fits-clean}
 use Rattle.payload.proofs.LineQuality.{Quality, quality, quality-told, none-mended, worst-self}
@@ -40,7 +41,7 @@ use Rattle.payload_b.specs.PlanB.{Sendable}
 use Rattle.symbols.proofs.Schemes.{sum-repeated, repeated-long}
 use Rattle.symbols.proofs.Mapping.{length-mapped, entries-repeated, points-mapped, stray-mapped, labelled-mapped}
 use Rattle.payload_b.proofs.Plans.{some-blocks, symbols-hold}
-use Rattle.payload_b.proofs.Blockwise.{bits-codedB, length-coded}
+use Rattle.payload_b.proofs.Blockwise.{bits-coded, length-codedB}
 use Rattle.payload_b.proofs.VerdictsB.{receivable, legal}
 use Rattle.payload_b.proofs.OnceB.{by-plan, length-bits, receive-b-once}
 
@@ -61,13 +62,13 @@ module _ (mode : ℕ) (frame scheme : List ℕ) where
     filled = filledUp (sumOf scheme * m) (codedB mode frame)
 
     coded-long : length (codedB mode frame) ≡ bitsFor mode (length frame)
-    coded-long = length-coded mode frame (sendable .whole)
+    coded-long = length-codedB mode frame (sendable .whole)
 
     filled-long : length filled ≡ sumOf scheme * m
     filled-long = rw (length-append, length-replicate) (omega (arith, coded-long, symbols-hold sendable))
 
     filled-bits : Bits filled
-    filled-bits = bits-append (codedB mode frame) _ (bits-codedB mode frame) (bits-zeros (sumOf scheme * m - length (codedB mode frame)))
+    filled-bits = bits-append (codedB mode frame) _ (bits-coded mode start frame) (bits-zeros (sumOf scheme * m - length (codedB mode frame)))
 
     points-back : received m is qs ≡ mapped (repeated m scheme) filled
     unfolding sentB pointsB
@@ -161,7 +162,7 @@ module _ (mode n : ℕ) (scheme : List ℕ) (is qs : List ℤ) (area : List ℕ)
       let long = goes .1 .fits .long in
       let counts = sym (goes .1 .tells) ∙ tells in
       quality-told up-is (ap (λ (t : Told). t .mended) counts) (ap (λ (t : Told). t .worst) counts)
-      (quality (wireB mode n) bits f (some-blocks (goes .0)) (rw long at (length-coded mode f (rw long (goes .0 .whole)))) (length-bits (goes .0) is qs) (goes .1 .fits))
+      (quality (wireB mode n) bits f (some-blocks (goes .0)) (rw long at (length-codedB mode f (rw long (goes .0 .whole)))) (length-bits (goes .0) is qs) (goes .1 .fits))
 
 -- an uncoded answer counts nothing mended, accepted or refused
 pub uncoded-counts : (n : ℕ) (scheme : List ℕ) (is qs : List ℤ) (area : List ℕ) (answer : ReceivedB) (after : List ℕ)

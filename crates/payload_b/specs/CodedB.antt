@@ -9,7 +9,7 @@ use lib.ListN.{length, take, drop, replicate}
 use Rattle.bch.specs.Codes.{Code, code1, code2, encoded}
 use Rattle.points.specs.declared.Point.{Point}
 use Rattle.bits.specs.Bytes.{bitsOf}
-use Rattle.payload.specs.Scrambler.{scrambled}
+use Rattle.payload.specs.Scrambler.{start, scrambledFrom}
 use Rattle.symbols.specs.Grids.{placed}
 use Rattle.symbols.specs.Schemes.{sumOf, repeated, mapped}
 
@@ -40,9 +40,13 @@ blocksOf mode (suc m) bits = blockOf mode (take (8 * blockBytes mode) bits) ++ b
 abbrev pub blocksIn : ℕ → ℕ → ℕ
 blocksIn mode n = n / blockBytes mode
 
--- the bits sent for a frame, the fill left out: the scrambler runs over the frame alone, before BCH
-unfoldable pub codedB : ℕ → List ℕ → List ℕ
-codedB mode frame = blocksOf mode (blocksIn mode (length frame)) (scrambled (bitsOf frame))
+-- the bits sent for bytes, the fill left out: the scrambler runs over them alone, from this register, before BCH
+unfoldable pub codedFrom : ℕ → ℕ → List ℕ → List ℕ
+codedFrom mode register bytes = blocksOf mode (blocksIn mode (length bytes)) (scrambledFrom register (bitsOf bytes))
+
+-- those of a frame
+abbrev pub codedB : ℕ → List ℕ → List ℕ
+codedB mode frame = codedFrom mode start frame
 
 -- ---- OFDM symbols
 

@@ -1,3 +1,5 @@
 pub mod CodedB
 pub mod PromiseB
 pub mod PlanB
+pub mod StreamB
+pub mod StreamedB

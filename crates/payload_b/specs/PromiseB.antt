@@ -16,8 +16,9 @@ use Rattle.answers.specs.declared.ReceivedB.{ReceivedB}
 use Rattle.points.specs.Constellations.{levelI, levelQ}
 use Rattle.symbols.specs.Grid.{subCarriers, symbolPoints}
 use Rattle.symbols.specs.Grids.{received, indexOf, firstOccupied, room}
+use Rattle.payload.specs.Scrambler.{start}
 use Rattle.payload.specs.Wire.{Wire, total, worst, Fits, FirstHopeless}
-use Rattle.payload_b.specs.CodedB.{blockBytes, blockBits, codeB, blocksIn, bitsFor, codedB, symbolsFor, sentB}
+use Rattle.payload_b.specs.CodedB.{blockBytes, blockBits, codeB, blocksIn, bitsFor, codedFrom, symbolsFor, sentB}
 use Rattle.symbols.specs.Schemes.{badEntry, repeated, strayIn, labelled}
 
 -- ---- the checks 1, 2, 5 and 6, which both directions begin with
@@ -80,9 +81,14 @@ bitsReceived mode n scheme is qs =
 abbrev pub mendsB : ℕ → ℕ
 mendsB mode = cond (eqb mode 0) 0 (codeB mode .t)
 
--- a frame of n bytes is sent as blocks of the mode's code, in each of which t bits may differ; uncoded, each byte is a block in which none may
+-- n bytes are sent, from a register, as blocks of the mode's code, in each of which t bits may differ; uncoded, each byte is a block in which none may
+abbrev pub wireFrom : ℕ → ℕ → ℕ → Wire
+wireFrom mode register n =
+    record { bytes = n; blocks = blocksIn mode n; size = blockBits mode; mends = mendsB mode; sent = codedFrom mode register }
+
+-- and so is a frame of n bytes
 abbrev pub wireB : ℕ → ℕ → Wire
-wireB mode n = record { bytes = n; blocks = blocksIn mode n; size = blockBits mode; mends = mendsB mode; sent = codedB mode }
+wireB mode n = wireFrom mode start n
 
 -- a frame that fits goes up, with the number of bits that differ, in all and in the worst block
 pub record GoesB (mode n : ℕ) (bits area : List ℕ) (answer : ReceivedB) (area' : List ℕ) : Type 0 where

@@ -1,14 +1,13 @@
 // What the checks 1, 2, 5 and 6 find out about a frame of Payload B.
 ghost use mathlib.Core.Path.{_≡_};
 ghost use Prim.Native.Nat.{suc, min, _+_, _-_, _*_, _/_, _≤_};
-ghost use lib.ListN.{take};
-ghost use Rattle.symbols.specs.Grid.{symbolPoints};
 ghost use Rattle.payload_b.specs.CodedB.{blockBytes, blockBits};
-ghost use Rattle.symbols.specs.Schemes.{sumOf, badEntry};
+ghost use Rattle.symbols.specs.Schemes.{sumOf, badEntry, Scheme};
 ghost use Rattle.payload_b.specs.PromiseB.{mostSymbols};
 ghost use Rattle.payload_b.specs.PlanB.{Judged};
 use answers::Refusal;
 use symbols::grid::POINTS;
+use symbols::scheme;
 
 // A frame that needs more OFDM symbols is refused.
 pub const MOST_SYMBOLS: usize = 256;
@@ -35,18 +34,16 @@ pub fn block_bits(mode: u8) -> usize
 
 // The bits of an OFDM symbol: those of the scheme's 210 entries.
 fn sum(scheme: &[u8]) -> usize
-    ensures { λ r. ⌜ r ≡ sumOf (take symbolPoints (now (scheme .entry))) ⌝ }
+    requires { ⌜ Scheme (now scheme) ⌝ }
+    ensures { λ r. ⌜ r ≡ sumOf (now (scheme .entry)) ⌝ }
 {
-    let mut n: usize = 0;
+    let mut n: u16 = 0;
     let mut i: usize = 0;
-    while i < scheme.len() {
-        if i == POINTS {
-            return n;
-        }
-        n += scheme[i] as usize;
+    while i < POINTS {
+        n += scheme[i] as u16;
         i += 1;
     }
-    n
+    n as usize
 }
 
 // The first entry outside 2 to 10; the length where there is none.
@@ -111,9 +108,8 @@ pub fn judged(mode: u8, size: usize, scheme: &[u8]) -> Verdict
     if scheme.len() != POINTS {
         return Verdict::Fails(Refusal::BadScheme(POINTS));
     }
-    let bad = bad_entry(scheme);
-    if bad < POINTS {
-        return Verdict::Fails(Refusal::BadScheme(bad));
+    if !scheme::is_scheme(scheme) {
+        return Verdict::Fails(Refusal::BadScheme(bad_entry(scheme)));
     }
     let blocks = size / block_bytes(mode);
     let sum = sum(scheme);

@@ -4,18 +4,19 @@ use mathlib.Core.Path.{_≡_, refl, sym, ap, _∙_}
 use mathlib.Core.Bool.{true, false}
 use mathlib.Core.List.{List, [], _++_, append-nil, append-assoc}
 use Prim.Native.Nat.{ℕ, zero, suc, _+_, _-_, _*_, _≤_, _<_, max}
-use native.Mathlib.Nat.{mul-add, mul-le-mul-left, sub-self}
+use native.Mathlib.Nat.{mul-add, sub-self}
 use native.Mathlib.Omega.{arith}
-use borrow.Rule.Slice.PartMut.{putMid, same-len-mid, mid-len, drop-put}
+use borrow.Rule.Slice.PartMut.{putMid, same-len-mid, mid-len, take-put, drop-put}
 use lib.ListN.{length, take, drop}
-use lib.Seq.{take-add, drop-drop}
+use lib.Seq.{take-add, drop-drop, drop-append-le, length-take-le}
 use Rattle.bits.proofs.Copies.{part-written}
+use Rattle.packed.proofs.Paddings.{drop-take}
 use Rattle.payload_b.specs.CodedB.{blockBytes, blockBits}
 use Rattle.payload_b.specs.PromiseB.{mendsB}
 use Rattle.receiver_b.specs.Steps.{NoneNear, Writes, Counts, Done, Going, Moves, Full, Closes, Shortens}
 use Rattle.receiver_b.specs.declared.stream.Tally.{Tally}
-use Rattle.receiver_b.proofs.Progress.{done-more, hopeless-next}
-use Rattle.receiver_b.proofs.Taking.{is-going, no-fill, moves-on}
+use Rattle.receiver_b.proofs.Progress.{done-more, stuck-kept, stuck-next}
+use Rattle.receiver_b.proofs.Taking.{is-going, no-fill, moves-still, moves-none, moves-on}
 
 -- ---- tallies
 
@@ -35,7 +36,7 @@ module _ (mode blocks : ℕ) (area held : List ℕ) (s : Tally) (good : s .good 
   rest = take (s .count - n) (drop n held)
 
   -- they are the last but for what waits
-  parted : {fed : List ℕ} (g : Going mode blocks fed area held s) → fed ≡ (g .bits ++ take n held) ++ rest
+  parted : {base : Tally} {fed : List ℕ} (g : Going mode blocks base fed area held s) → fed ≡ (g .bits ++ take n held) ++ rest
   parted g =
       let e : s .count ≡ n + (s .count - n) = omega arith in
       no-fill g few ∙ ap (λ (w : List ℕ). g .bits ++ w) (ap (λ (i : ℕ). take i held) e ∙ take-add n (s .count - n) held)
@@ -44,58 +45,53 @@ module _ (mode blocks : ℕ) (area held : List ℕ) (s : Tally) (good : s .good 
   -- a block cannot be mended
   pub moves-lost : mode ≤ 2 → length (take n held) ≡ blockBits mode → NoneNear mode (take n held) → {area' : List ℕ} → area' ≡ area
       → Moves mode blocks [] area held s area' (drop n held) (lost n s)
-  moves-lost known long none same = record {
-    long = ap length same;
-    beyond = ap (drop (blockBytes mode * blocks)) same;
-    taken =
-        λ fed t.
-        let g = is-going {fed = fed} good t in
-        let next = hopeless-next known (g .done) long none blocks few in
-        rw (append-nil, parted g)
-        (record { coded = none .coded; hopeless = λ more. rw (append-assoc (g .bits ++ take n held) rest more) (next (rest ++ more)) });
-  }
+  moves-lost known long none same = rw same (moves-still refl (λ base fed t.
+      let g = is-going {base = base} {fed = fed} good t in
+      rw (append-nil, parted g) (stuck-kept known (stuck-next known (g .done) long none (g .since) few) rest)))
 
   -- m blocks are mended, and their bytes are put behind those before
-  module _ (m : ℕ) (all : s .done + m ≤ blocks) (at end : ℕ) (ea : at ≡ blockBytes mode * s .done) (ee : end ≡ at + blockBytes mode * m)
+  module _ (m : ℕ) (at end : ℕ) (ea : at ≡ blockBytes mode * s .done) (ee : end ≡ at + blockBytes mode * m)
       (fits : end ≤ length area) (out : List ℕ) (long : length out ≡ end - at) where
     -- the area with the bytes
     abbrev put : List ℕ
     put = putMid at (end - at) area out
 
-    -- they end within the frame
-    ended : (blockBytes mode * (s .done + m) ≡ end) × (end ≤ blockBytes mode * blocks)
-    ended =
-        let e = mul-add (blockBytes mode) (s .done) m in
-        let l = mul-le-mul-left (blockBytes mode) all in
-        (omega arith, omega arith)
+    -- where they end
+    ends : end ≡ blockBytes mode * (s .done + m)
+    ends = omega (arith, mul-add (blockBytes mode) (s .done) m)
 
-    -- the frame up to their end, and what lies behind
-    put-front : take (blockBytes mode * (s .done + m)) put ≡ take (blockBytes mode * s .done) area ++ out
-    put-front =
-        let e : blockBytes mode * (s .done + m) ≡ at + (end - at) = omega (arith, ended .0) in
-        rw (e, ← ea) (part-written at (end - at) area (omega arith) out long)
-
-    put-beyond : drop (blockBytes mode * blocks) put ≡ drop (blockBytes mode * blocks) area
-    put-beyond =
-        let more = blockBytes mode * blocks - end in
-        let e : blockBytes mode * blocks ≡ end + more = omega (arith, ended .1) in
-        rw (e, ← drop-drop more end put, ← drop-drop more end area) (ap (drop more) (drop-put at end area out (omega arith) fits long))
+    -- since a base: the bytes up to their end
+    put-since : (k d : ℕ) → s .done ≡ d + k
+        → take (blockBytes mode * (k + m)) (drop (blockBytes mode * d) put) ≡ take (blockBytes mode * k) (drop (blockBytes mode * d) area) ++ out
+    put-since k d e =
+        let y = blockBytes mode in
+        let front : y * s .done ≡ y * d + y * k = ap (λ (i : ℕ). y * i) e ∙ mul-add y d k in
+        let less : end - y * d ≡ y * (k + m) = omega (arith, mul-add y k m) in
+        let least : at - y * d ≡ y * k = omega arith in
+        let all : at + (end - at) ≡ end = omega arith in
+        rw (← less, ← least, ← drop-take (y * d) end put, ← drop-take (y * d) at area)
+        (ap (drop (y * d)) (rw all at (part-written at (end - at) area (omega arith) out long))
+        ∙ drop-append-le (y * d) (take at area) out (omega (arith, length-take-le at area (omega arith))))
 
     pub moves-closed : {after mended worst : ℕ}
-        → ((bits f : List ℕ) → Done mode (s .done) bits f (s .register) (s .mended) (s .worst)
-        → Done mode (s .done + m) (bits ++ take n held) (f ++ out) after mended worst)
+        → ((base : Tally) (k : ℕ) (bits f : List ℕ) → Done mode base k bits f (s .register) (s .mended) (s .worst)
+        → Done mode base (k + m) (bits ++ take n held) (f ++ out) after mended worst)
         → Moves mode blocks [] area held s put (drop n held) (closed n m after mended worst s)
     moves-closed more = record {
       long = same-len-mid at (end - at) area out (long ∙ sym (mid-len at end area fits));
-      beyond = put-beyond;
+      onward = omega arith;
+      front = rw (← ea) (take-put at (end - at) area out (omega arith));
+      beyond = rw (← ends) (drop-put at end area out (omega arith) fits long);
       taken =
-          λ fed t.
-          let g = is-going {fed = fed} good t in
+          λ base fed t.
+          let g = is-going {base = base} {fed = fed} good t in
           record {
+            m = g .m + m;
+            since = omega (arith, g .since);
             bits = g .bits ++ take n held;
             fill = [];
             parts = rw (append-nil fed, append-nil rest) (parted g);
-            done = rw put-front (more (g .bits) (take (blockBytes mode * s .done) area) (g .done));
+            done = rw (put-since (g .m) (base .done) (g .since)) (more base (g .m) (g .bits) _ (g .done));
             unfilled = λ _. refl;
           };
     }
@@ -128,8 +124,8 @@ module _ {mode : ℕ} {area block : List ℕ} {s : Tally} (h : Full mode area s)
     counts = λ blocks few. record { few = omega arith; mended = omega (arith, h .mended, w .near, mends-few mode (h .known)) };
     moves =
         λ blocks few held e.
-        moves-closed mode blocks area held s (h .good) few (blockBits mode) (h .full) 1 (omega arith) at end ea (omega arith) (omega (arith, h .fits)) out
-        (w .long ∙ omega arith) (λ bits f d. rw e (done-more d w long));
+        moves-closed mode blocks area held s (h .good) few (blockBits mode) (h .full) 1 at end ea (omega arith) (omega (arith, h .fits)) out
+        (w .long ∙ omega arith) (λ base k bits f d. rw e (done-more d w long));
   }
 
 -- ---- block after block
@@ -139,7 +135,7 @@ pub shortens-none : {mode blocks : ℕ} {area : List ℕ} {s : Tally} → (held 
 shortens-none {s = s} held counts = record {
   fewer = omega arith;
   counts = counts;
-  moves = rw (sub-self (s .count)) (record { long = refl; beyond = refl; taken = λ fed t. rw append-nil t });
+  moves = rw (sub-self (s .count)) moves-none;
 }
 
 -- one more

@@ -2,16 +2,16 @@
 -- Assumes nothing.
 use mathlib.Core.Path.{_≡_, refl, sym, ap, subst, _∙_}
 use mathlib.Core.Bool.{Bool, true, false, cond}
-use mathlib.Core.List.{List, [], _++_}
+use mathlib.Core.List.{List, [], _++_, append-nil}
 use Prim.Native.Nat.{ℕ, _-_, _≤_}
 use native.Mathlib.Omega.{arith}
 use lib.ListN.{length, take, drop, replicate, length-drop}
 use Rattle.packed.specs.Packed.{bits512, padded}
 use Rattle.payload_b.proofs.Blocks.{block-bits-pos, block-bits-few}
-use Rattle.receiver_b.specs.Steps.{Standing, TakesIn, wants, TakesBlocks, Ends, keeping, Leaves}
+use Rattle.receiver_b.specs.Steps.{Standing, Moves, TakesIn, wants, TakesBlocks, Ends, keeping, Leaves}
 use Rattle.receiver_b.specs.declared.stream.Tally.{Tally}
 use Rattle.packed.proofs.Fronts.{padded-front, zeros-512}
-use Rattle.receiver_b.proofs.Taking.{not-wanted}
+use Rattle.receiver_b.proofs.Taking.{wanted, not-wanted, moves-still, moves-on}
 
 -- ---- what is left
 
@@ -29,24 +29,32 @@ pub left-ends : {mode blocks : ℕ} {area run area' : List ℕ} {from s : Tally}
     → Ends blocks (from .count) s
 left-ends {mode} within turn = record { within = within; fewer = turn .0 .fewer; short = λ w. omega (arith, turn .1 w, block-bits-few mode) }
 
-module _ (mode blocks : ℕ) (fed area held held' : List ℕ) (s : Tally) where
+module _ {mode blocks : ℕ} {area held held' : List ℕ} {s : Tally} where
   -- the bits that wait stand elsewhere
-  elsewhere : take (s .count) held' ≡ take (s .count) held → (good : Bool) → Standing good mode blocks fed area held s
-      → Standing good mode blocks fed area held' s
-  elsewhere e true g = record { bits = g .bits; fill = g .fill; parts = rw e (g .parts); done = g .done; unfilled = g .unfilled }
-  elsewhere e false k = k
+  elsewhere : take (s .count) held' ≡ take (s .count) held → Moves mode blocks [] area held s area held' s
+  elsewhere e = moves-still refl (λ base fed t. rw append-nil (by base fed (s .good) t))
+    where
+      by : (base : Tally) (fed : List ℕ) (good : Bool) → Standing good mode blocks base fed area held s → Standing good mode blocks base fed area held' s
+      by base fed true g =
+          record { m = g .m; since = g .since; bits = g .bits; fill = g .fill; parts = rw e (g .parts); done = g .done; unfilled = g .unfilled }
+      by base fed false k = k
 
   -- none wait any more
-  let-go : (good : Bool) → (good ≡ true → blocks ≤ s .done) → Standing good mode blocks fed area held s
-      → Standing good mode blocks fed area held' (keeping 0 s)
-  let-go true all g = record {
-    bits = g .bits;
-    fill = take (s .count) held ++ g .fill;
-    parts = g .parts;
-    done = g .done;
-    unfilled = λ l. absurd (omega (arith, all refl));
-  }
-  let-go false all k = record { coded = k .coded; hopeless = k .hopeless }
+  let-go : (s .good ≡ true → blocks ≤ s .done) → Moves mode blocks [] area held s area held' (keeping 0 s)
+  let-go all = moves-still refl (λ base fed t. rw append-nil (by base fed (s .good) all t))
+    where
+      by : (base : Tally) (fed : List ℕ) (good : Bool) → (good ≡ true → blocks ≤ s .done) → Standing good mode blocks base fed area held s
+          → Standing good mode blocks base fed area held' (keeping 0 s)
+      by base fed true all g = record {
+        m = g .m;
+        since = g .since;
+        bits = g .bits;
+        fill = take (s .count) held ++ g .fill;
+        parts = g .parts;
+        done = g .done;
+        unfilled = λ l. absurd (omega (arith, all refl));
+      }
+      by base fed false all k = record { coded = k .coded; next = k .next; m = k .m; since = k .since; whole = k .whole; hopeless = k .hopeless }
 
 module _ {mode blocks : ℕ} {area run area' : List ℕ} {from s : Tally} (room : from .count ≤ length run)
     (turn : TakesBlocks mode blocks area run from area' s) where
@@ -59,23 +67,25 @@ module _ {mode blocks : ℕ} {area run area' : List ℕ} {from s : Tally} (room 
       let h = turn .0 in
       let same : take (s .count) held ≡ take (s .count) rest
       = ap (take (s .count)) e ∙ padded-front rest (s .count) (omega (arith, h .fewer, length-drop (from .count - s .count) run)) in (
-        record { partial = turn .1 w; counts = h .counts; behind = e ∙ ap padded (sym same) },
         record {
-          long = h .moves .long;
-          beyond = h .moves .beyond;
-          taken = λ fed t. elsewhere mode blocks (fed ++ []) area' rest held s same (s .good) (h .moves .taken fed t);
+          partial = turn .1 w;
+          ended = λ all. absurd (omega (arith, wanted blocks s w .1));
+          counts = h .counts;
+          behind = e ∙ ap padded (sym same);
         },
+        moves-on (h .moves) (elsewhere same),
       )
 
   ends-none : {held : List ℕ} → wants blocks s ≡ false → held ≡ padded [] → TakesIn mode blocks [] area run from area' held (keeping 0 s)
   ends-none {held} w e =
       let h = turn .0 in (
-        record { partial = block-bits-pos mode; counts = record { few = h .counts .few; mended = h .counts .mended }; behind = e },
         record {
-          long = h .moves .long;
-          beyond = h .moves .beyond;
-          taken = λ fed t. let-go mode blocks (fed ++ []) area' rest held s (s .good) (not-wanted blocks s w) (h .moves .taken fed t);
+          partial = block-bits-pos mode;
+          ended = λ _. refl;
+          counts = record { few = h .counts .few; mended = h .counts .mended };
+          behind = e;
         },
+        moves-on (h .moves) (let-go (not-wanted blocks s w)),
       )
 
   -- it is left, or gone

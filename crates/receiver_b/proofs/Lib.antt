@@ -6,4 +6,6 @@ pub mod Closing
 pub mod Plain
 pub mod Leaving
 pub mod Faults
+pub mod Stops
 pub mod Receiving
+pub mod Stepping

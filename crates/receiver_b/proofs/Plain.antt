@@ -52,10 +52,10 @@ unfolding registerAfter
 no-step register = refl
 
 -- as many as there are
-done-bytes : {d : ℕ} {bits f : List ℕ} {register k worst : ℕ} (ys : List ℕ) → Bytes ys → Done 0 d bits f register k worst
-    → Done 0 (d + length ys) (bits ++ scrambledFrom register (bitsOf ys)) (f ++ ys) (registerAfter (8 * length ys) register) k worst
-done-bytes {d} {bits} {f} {register} [] h done = rw (add-zero d, no-bits register, no-step register, append-nil bits, append-nil f) done
-done-bytes {d} {bits} {f} {register} {k} {worst} (y ∷ ys) h done =
+done-bytes : {base : Tally} {d : ℕ} {bits f : List ℕ} {register k worst : ℕ} (ys : List ℕ) → Bytes ys → Done 0 base d bits f register k worst
+    → Done 0 base (d + length ys) (bits ++ scrambledFrom register (bitsOf ys)) (f ++ ys) (registerAfter (8 * length ys) register) k worst
+done-bytes {base} {d} {bits} {f} {register} [] h done = rw (add-zero d, no-bits register, no-step register, append-nil bits, append-nil f) done
+done-bytes {base} {d} {bits} {f} {register} {k} {worst} (y ∷ ys) h done =
     let next = registerAfter 8 register in
     let more : d + 1 + length ys ≡ d + length (y ∷ ys) = omega arith in
     let end : 8 + 8 * length ys ≡ 8 * length (y ∷ ys) = omega arith in
@@ -108,8 +108,8 @@ module _ {blocks : ℕ} {area : List ℕ} {s : Tally} (h : Wanted 0 blocks s are
       let k = at + m - at in
       let bytes = bytes-before out (postOf at k area) (bytes-behind (take at area) (out ++ postOf at k area) all-bytes) in
       let all : s .count - (s .count - 8 * m) ≡ 8 * m = omega (arith, few .0) in
-      let moves = moves-closed 0 blocks area held s (h .good) (h .next) (8 * m) (few .0) m (few .1) at (at + m) (omega arith) (omega arith)
-      (omega (arith, few .1, h .room)) out (long ∙ omega arith) (λ bits f d. rw (sent, long) at (done-bytes out bytes d)) in (
+      let moves = moves-closed 0 blocks area held s (h .good) (h .next) (8 * m) (few .0) m at (at + m) (omega arith) (omega arith)
+      (omega (arith, few .1, h .room)) out (long ∙ omega arith) (λ base k bits f d. rw (sent, long) at (done-bytes out bytes d)) in (
         record {
           fewer = omega arith;
           counts = record { few = few .1; mended = omega (arith, h .counts .mended) };

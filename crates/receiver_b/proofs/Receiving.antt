@@ -5,6 +5,7 @@ use mathlib.Core.Logic.{inl, inr}
 use mathlib.Core.Bool.{Bool, true, false, cond}
 use mathlib.Core.List.{List, [], _++_, append-nil}
 use Prim.Native.Nat.{ℕ, _+_, _-_, _*_, _≤_}
+use native.Mathlib.Nat.{mul-zero, zero-add, zero-max, mul-le-mul-left}
 use native.Mathlib.Omega.{arith}
 use native.Mathlib.Numerals.{add-one}
 use lib.IntN.{ℤ}
@@ -36,9 +37,11 @@ use Rattle.symbols.proofs.Schemes.{repeated-more}
 use Rattle.symbols.proofs.Mapping.{as-many, length-symbols}
 use Rattle.symbols.proofs.Labelled.{labels, labels-long}
 use Rattle.payload_b.proofs.Plans.{whole-blocks, symbols-hold}
+use Rattle.payload_b.proofs.Blocks.{coded}
 use Rattle.symbols.proofs.ReadBits.{read-append, length-read, read-labelled}
 use Rattle.receiver_b.proofs.Faults.{is-readable}
-use Rattle.receiver_b.proofs.Taking.{began-taken, all-done}
+use Rattle.receiver_b.proofs.Progress.{hopeless-wider}
+use Rattle.receiver_b.proofs.Taking.{rest-same, base-taken, all-done}
 
 -- ---- OFDM symbols, read by any table
 
@@ -118,38 +121,49 @@ module _ {mode n : ℕ} {scheme : List ℕ} (plan : Sendable mode n scheme) (is 
   module _ {area area' held : List ℕ} {s : Tally} (on : TakesIn mode (blocksIn mode n) all area (bits512 (began .block)) (began .tally) area' held s) where
     -- nothing beyond the frame is touched
     beyond : drop n area' ≡ drop n area
-    beyond = rw (← whole-blocks mode n (plan .whole)) at (on .1 .beyond)
+    beyond =
+        let y = blockBytes mode in
+        let last = mul-le-mul-left y (on .0 .counts .few) in
+        rw (← whole-blocks mode n (plan .whole)) at (rest-same (y * s .done) (y * blocksIn mode n) area' area last (on .1 .beyond))
 
     -- all blocks are mended
-    goes-up : Going mode (blocksIn mode n) all area' held s → GoesB mode n (bitsReceived mode n scheme is qs) area (Accepted (s .mended) (s .worst)) area'
+    goes-up : Going mode (blocksIn mode n) (began .tally) all area' held s
+        → GoesB mode n (bitsReceived mode n scheme is qs) area (Accepted (s .mended) (s .worst)) area'
     goes-up g =
-        let done : s .done ≡ blocksIn mode n = all-done (on .0) symbols-enough g in
-        let size : blockBytes mode * s .done ≡ n = ap (λ (m : ℕ). blockBytes mode * m) done ∙ sym (whole-blocks mode n (plan .whole)) in
-        let long : length (g .bits) ≡ bitsFor mode n = g .done .long ∙ ap (λ (m : ℕ). blockBits mode * m) done in
+        let y = blockBytes mode in
+        let m : g .m ≡ blocksIn mode n = omega (arith, g .since, all-done (on .0) (omega (arith, symbols-enough)) g) in
+        let size : y * g .m ≡ n = ap (λ (k : ℕ). y * k) m ∙ sym (whole-blocks mode n (plan .whole)) in
+        let long : length (g .bits) ≡ bitsFor mode n = g .done .long ∙ ap (λ (k : ℕ). blockBits mode * k) m in
         let bits : g .bits ≡ bitsReceived mode n scheme is qs = sym (ap (take (bitsFor mode n)) (g .parts) ∙ take-at (g .bits) _ (bitsFor mode n) long) in
+        let frame : take (y * g .m) (drop (y * 0) area') ≡ take n area' = rw (size, mul-zero y) refl in
         record {
           frame = take n area';
-          fits = rw (size, bits) at (g .done .fits);
-          tells = ap₂ (λ (k j : ℕ). accepted k 0 j) (rw (size, bits) at (g .done .counted)) (rw (size, done, bits) at (g .done .largest));
+          fits = rw (frame, size, bits) at (g .done .fits);
+          tells =
+              ap₂ (λ (k j : ℕ). accepted k 0 j) (rw (frame, bits, zero-add) at (g .done .counted)) (rw (frame, m, bits, zero-max) at (g .done .largest));
           left = sym (take-append-drop n area') ∙ ap (λ (w : List ℕ). take n area' ++ w) beyond;
         }
 
     -- one cannot be
-    hopeless : Stuck mode (blocksIn mode n) all s
+    hopeless : Stuck mode (blocksIn mode n) (began .tally) all s
         → HopelessB mode n (bitsReceived mode n scheme is qs) area (Refused (Uncorrectable (s .done))) (replicate n 0 ++ drop n area')
-    hopeless k = record {
-      coded = k .coded;
-      block = s .done;
-      hopeless = rw append-nil at (k .hopeless []);
-      tells = refl;
-      left = ap (λ (w : List ℕ). replicate n 0 ++ w) beyond;
-    }
+    hopeless k =
+        let c = coded mode (plan .known) (k .coded) in
+        let m : k .m ≡ s .done = omega (arith, k .since) in
+        record {
+          coded = k .coded;
+          block = s .done;
+          hopeless =
+              rw (c .whole, append-nil, m) at (hopeless-wider (k .hopeless) (rw (c .whole) (k .whole)) [] (blocksIn mode n) (omega (arith, k .next)));
+          tells = refl;
+          left = ap (λ (w : List ℕ). replicate n 0 ++ w) beyond;
+        }
 
     -- so the answer at the end is right
     pub settled-b : ReceivesB (passes tt) mode n (bitsReceived mode n scheme is qs) area (settledB s) (cond (s .good) area' (replicate n 0 ++ drop n area'))
-    settled-b = by (s .good) (on .1 .taken [] (began-taken mode (blocksIn mode n) area))
+    settled-b = by (s .good) (on .1 .taken (began .tally) [] (base-taken mode (blocksIn mode n) area (bits512 (began .block)) (began .tally) refl))
       where
-        by : (good : Bool) → Standing good mode (blocksIn mode n) all area' held s
+        by : (good : Bool) → Standing good mode (blocksIn mode n) (began .tally) all area' held s
             → ReceivesB (passes tt) mode n (bitsReceived mode n scheme is qs) area
             (cond good (Accepted (s .mended) (s .worst)) (Refused (Uncorrectable (s .done)))) (cond good area' (replicate n 0 ++ drop n area'))
         by true g = inl (goes-up g)

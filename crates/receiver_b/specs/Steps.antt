@@ -5,7 +5,7 @@ use mathlib.Core.Path.{_≡_}
 use mathlib.Core.Logic.{_≢_}
 use mathlib.Core.Bool.{Bool, true, false, cond, _&&_}
 use mathlib.Core.List.{List, [], _++_}
-use Prim.Native.Nat.{ℕ, _+_, _-_, _*_, _≤_, _<_}
+use Prim.Native.Nat.{ℕ, suc, _+_, _-_, _*_, _≤_, _<_, max}
 use lib.Dec.{leb, ltb}
 use lib.IntN.{ℤ}
 use lib.ListN.{length, take, drop, replicate}
@@ -19,10 +19,16 @@ use Rattle.packed.specs.Packed.{bits512, padded}
 use Rattle.symbols.specs.Grid.{subCarriers}
 use Rattle.payload.specs.Scrambler.{start, scrambledFrom, registerAfter}
 use Rattle.payload.specs.Wire.{worstOf, Fits, FirstHopeless}
-use Rattle.payload_b.specs.CodedB.{blockBytes, blockBits, codeB, blockOf, codedB}
+use Rattle.payload_b.specs.CodedB.{blockBytes, blockBits, codeB, blockOf, codedFrom, symbolsFor}
 use Rattle.symbols.specs.Schemes.{sumOf, Scheme}
-use Rattle.payload_b.specs.PromiseB.{mendsB, wireB}
+use Rattle.payload_b.specs.PromiseB.{mendsB, wireFrom}
 use Rattle.payload_b.specs.PlanB.{Sendable, planOf}
+use Rattle.payload_b.specs.StreamB.{Kept, stageOf, Takes}
+use Rattle.payload_b.specs.declared.stream.State.{State}
+use Rattle.payload_b.specs.declared.stream.Stage.{Stage}
+use Rattle.symbols.specs.ByScheme.{faultIn}
+use Rattle.symbols.specs.declared.Fault.the-variants.{Clear}
+use Rattle.answers.specs.Checks.{passes}
 use Rattle.payload_b.specs.declared.plan.Plan.{Plan}
 use Rattle.receiver_b.specs.declared.stream.Stream.{Stream}
 use Rattle.receiver_b.specs.declared.stream.Tally.{Tally}
@@ -66,9 +72,10 @@ pub record Counts (mode blocks : ℕ) (s : Tally) : Type 0 where
   pub few : s .done ≤ blocks
   pub mended : s .mended ≤ blockBytes mode * s .done
 
--- a state that the code may go on from: less than a block waits, and behind it there are zeros
+-- a state that the code may go on from: less than a block waits, none where all blocks are done, and behind it there are zeros
 pub record Sane (mode blocks : ℕ) (held : List ℕ) (s : Tally) : Type 0 where
   pub partial : s .count < blockBits mode
+  pub ended : blocks ≤ s .done → s .count ≡ 0
   pub counts : Counts mode blocks s
   pub behind : held ≡ padded (take (s .count) held)
 
@@ -76,42 +83,51 @@ pub record Sane (mode blocks : ℕ) (held : List ℕ) (s : Tally) : Type 0 where
 abbrev pub began : Stream
 began = record { block = replicate 8 0; tally = record { count = 0; done = 0; register = start; mended = 0; worst = 0; good = true } }
 
--- m blocks are mended: their bits, the frame that they are sent for, the register after it, and how many bits were mended, in all and in the worst block
-pub record Done (mode m : ℕ) (bits frame : List ℕ) (register count worst : ℕ) : Type 0 where
+-- m blocks are mended since a tally, the base: their bits, the bytes that they are sent for, the register after them, and how many bits were mended, in all and
+-- in the worst block, those of the base among them
+pub record Done (mode : ℕ) (base : Tally) (m : ℕ) (bits bytes : List ℕ) (register mended worst : ℕ) : Type 0 where
   pub long : length bits ≡ blockBits mode * m
-  pub fits : Fits (wireB mode (blockBytes mode * m)) bits frame
-  pub carried : register ≡ registerAfter (8 * length frame) start
-  pub counted : count ≡ differ (codedB mode frame) bits
-  pub largest : worst ≡ worstOf (blockBits mode) m (codedB mode frame) bits
+  pub fits : Fits (wireFrom mode (base .register) (blockBytes mode * m)) bits bytes
+  pub carried : register ≡ registerAfter (8 * length bytes) (base .register)
+  pub counted : mended ≡ base .mended + differ (codedFrom mode (base .register) bytes) bits
+  pub largest : worst ≡ max (base .worst) (worstOf (blockBits mode) m (codedFrom mode (base .register) bytes) bits)
 
--- of the bits `fed`, the whole blocks that are done are mended and the rest waits; the frame so far stands at the front of the area. Behind all blocks comes
--- the fill
-pub record Going (mode blocks : ℕ) (fed area held : List ℕ) (s : Tally) : Type 0 where
+-- of the bits `fed` since the base, the whole blocks that are done are mended and the rest waits; their bytes stand in the area behind those of the base.
+-- Behind all blocks comes the fill
+pub record Going (mode blocks : ℕ) (base : Tally) (fed area held : List ℕ) (s : Tally) : Type 0 where
+  pub m : ℕ
+  pub since : s .done ≡ base .done + m
   pub bits : List ℕ
   pub fill : List ℕ
   pub parts : fed ≡ bits ++ (take (s .count) held ++ fill)
-  pub done : Done mode (s .done) bits (take (blockBytes mode * s .done) area) (s .register) (s .mended) (s .worst)
+  pub done : Done mode base m bits (take (blockBytes mode * m) (drop (blockBytes mode * base .done) area)) (s .register) (s .mended) (s .worst)
   pub unfilled : s .done < blocks → fill ≡ []
 
--- whatever comes: of the frame's blocks the next has no codeword within t, and every block before it has one
-pub record Stuck (mode blocks : ℕ) (fed : List ℕ) (s : Tally) : Type 0 where
+-- of the blocks `fed` since the base, the next is whole and has no codeword within t, and every block before it has one; it is one of the frame's
+pub record Stuck (mode blocks : ℕ) (base : Tally) (fed : List ℕ) (s : Tally) : Type 0 where
   pub coded : mode ≢ 0
-  pub hopeless : (more : List ℕ) → FirstHopeless (codeB mode) blocks (take (blockBits mode * blocks) (fed ++ more)) (s .done)
+  pub next : s .done < blocks
+  pub m : ℕ
+  pub since : s .done ≡ base .done + m
+  pub whole : blockBits mode * suc m ≤ length fed
+  pub hopeless : FirstHopeless (codeB mode) (suc m) fed m
 
--- `fed` was taken in, by whether the state is good yet
-abbrev pub Standing : Bool → ℕ → ℕ → List ℕ → List ℕ → List ℕ → Tally → Type 0
-Standing true mode blocks fed area held s = Going mode blocks fed area held s
-Standing false mode blocks fed area held s = Stuck mode blocks fed s
+-- `fed` was taken in since the base, by whether the state is good yet
+abbrev pub Standing : Bool → ℕ → ℕ → Tally → List ℕ → List ℕ → List ℕ → Tally → Type 0
+Standing true mode blocks base fed area held s = Going mode blocks base fed area held s
+Standing false mode blocks base fed area held s = Stuck mode blocks base fed s
 
 -- by that of its tally
-abbrev pub Taken : ℕ → ℕ → List ℕ → List ℕ → List ℕ → Tally → Type 0
-Taken mode blocks fed area held s = Standing (s .good) mode blocks fed area held s
+abbrev pub Taken : ℕ → ℕ → Tally → List ℕ → List ℕ → List ℕ → Tally → Type 0
+Taken mode blocks base fed area held s = Standing (s .good) mode blocks base fed area held s
 
--- more bits are taken in: nothing beyond the frame is touched
+-- more bits are taken in: in the area nothing is touched but the bytes of the blocks that are done now
 pub record Moves (mode blocks : ℕ) (bits area held : List ℕ) (s : Tally) (area' held' : List ℕ) (s' : Tally) : Type 0 where
   pub long : length area' ≡ length area
-  pub beyond : drop (blockBytes mode * blocks) area' ≡ drop (blockBytes mode * blocks) area
-  pub taken : (fed : List ℕ) → Taken mode blocks fed area held s → Taken mode blocks (fed ++ bits) area' held' s'
+  pub onward : s .done ≤ s' .done
+  pub front : take (blockBytes mode * s .done) area' ≡ take (blockBytes mode * s .done) area
+  pub beyond : drop (blockBytes mode * s' .done) area' ≡ drop (blockBytes mode * s' .done) area
+  pub taken : (base : Tally) (fed : List ℕ) → Taken mode blocks base fed area held s → Taken mode blocks base (fed ++ bits) area' held' s'
 
 -- and the state after is one to go on from
 abbrev pub TakesIn : ℕ → ℕ → List ℕ → List ℕ → List ℕ → Tally → List ℕ → List ℕ → Tally → Type 0
@@ -192,3 +208,27 @@ pub record Ready (scheme : List ℕ) (mode : ℕ) (plan : Plan) (from : Stream) 
 -- the answer at the end
 abbrev pub settledB : Tally → ReceivedB
 settledB s = cond (s .good) (Accepted (s .mended) (s .worst)) (Refused (Uncorrectable (s .done)))
+
+-- ---- a step of a stream
+
+-- a state that is sound, and how far it is
+pub record Staged (s : State) (stage : Stage) : Type 0 where
+  pub kept : Kept s
+  pub far : stage ≡ stageOf s
+
+-- another OFDM symbol is wanted, and there is room for it
+pub record Next (s : State) (stage : Stage) (is qs : List ℤ) (area : List ℕ) : Type 0 where
+  pub staged : Staged s stage
+  pub more : s .seen < symbolsFor (s .mode) (s .size) (s .scheme)
+  pub long-i : subCarriers ≤ length is
+  pub long-q : subCarriers ≤ length qs
+  pub room : s .size ≤ length area
+
+-- and 7 and 8 find no fault in it
+pub record Clean (s : State) (stage : Stage) (is qs : List ℤ) (area : List ℕ) : Type 0 where
+  pub next : Next s stage is qs area
+  pub clear : Clear ≡ faultIn 1 (s .scheme) is qs
+
+-- its bits are taken in
+abbrev pub Taking : State → List ℤ → List ℤ → List ℕ → ReceivedB → State → List ℕ → Type 0
+Taking s is qs area = Takes (passes tt) s is qs area

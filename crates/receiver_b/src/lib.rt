@@ -1,19 +1,26 @@
-// Receives Payload B of HiNoC (ITU-T J.195.2, clause 7.5, as document 01 reads it): a frame from as many as 256 OFDM symbols.
+// Receives Payload B of HiNoC (ITU-T J.195.2, clause 7.5, as document 01 reads it): a frame from as many as 256 OFDM symbols, whole or one symbol at a time.
 //
 //   block      one block, mended
 //   stream     bits on their way, block by block
 //   receiver   one frame, whose checks pass but for those of points
+//   step       one OFDM symbol of a stream
 ghost use Rattle.payload_b.specs.PromiseB.{ReceivingB};
+ghost use Rattle.payload_b.specs.StreamB.{OpeningB, SteppingB};
 
 mod block;
 mod receiver;
+mod step;
 mod stream;
 
 use answers::ReceivedB;
 use answers::Refusal;
 use payload_b::plan;
 use payload_b::plan::Verdict;
+use payload_b::stream::Course;
+use payload_b::stream::Found;
+use payload_b::stream::State;
 use symbols::grid;
+use symbols::grid::POINTS;
 use symbols::grid::SUB_CARRIERS;
 
 // Receives a frame of so many bytes, and writes it to the first of the area.
@@ -38,6 +45,41 @@ pub fn receive_b(
                 return ReceivedB::Refused(Refusal::NoRoom);
             }
             receiver::receive(mode, size, scheme, plan, i, q, area)
+        }
+    }
+}
+
+// What a step answers, and the state after it.
+pub struct Stepped {
+    pub answer: ReceivedB,
+    pub state: State,
+}
+
+// Opens a stream for a frame of so many bytes: the state before its first OFDM symbol, or one that holds the refusal.
+pub fn open_b(mode: u8, size: usize, scheme: &[u8]) -> State
+    ensures { λ r. ⌜ OpeningB mode size (now (scheme .entry)) r ⌝ }
+{
+    let verdict = plan::judged(mode, size, scheme);
+    match verdict {
+        Verdict::Fails(why) => step::stopped(why, step::fresh(0, 0, [0; POINTS])),
+        Verdict::Passes(_) => step::fresh(mode, size, step::kept(scheme)),
+    }
+}
+
+// Takes the next OFDM symbol of a stream in, the first 256 elements of i and q, and writes the bytes of the blocks that are complete with it to their place in
+// the area.
+pub fn step_b(state: State, i: &[i16], q: &[i16], area: &mut [u8]) -> Stepped
+    ensures { λ r. ⌜ SteppingB state (now (i .entry)) (now (q .entry)) (now (area .entry)) (r .answer) (r .state) (now (area .exit)) ⌝ }
+{
+    let course = state.course;
+    match course {
+        Course::Refused(why) => step::unchanged(why, state),
+        Course::Open => {
+            let found = payload_b::stream::judged(state);
+            match found {
+                Found::Forged => step::unchanged(Refusal::Forged, state),
+                Found::Sound(stage) => step::next(state, stage, i, q, area),
+            }
         }
     }
 }

@@ -16,7 +16,7 @@ use symbols::Fault;
 use symbols::scheme;
 
 // Makes each element of out zero.
-fn clear(out: &mut [u8])
+pub(crate) fn clear(out: &mut [u8])
     ensures { λ _. ⌜ now (out .exit) ≡ replicate (length (now (out .entry))) 0 ⌝ }
 {
     let mut i: usize = 0;

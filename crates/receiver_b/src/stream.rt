@@ -179,7 +179,7 @@ fn take_run(mode: u8, blocks: usize, from: Tally, run: &[u64; RUN], area: &mut [
 }
 
 // Takes one OFDM symbol in.
-fn take_symbol(
+pub(crate) fn take_symbol(
     quadrants: &[u64; 128],
     scheme: &[u8],
     mode: u8,

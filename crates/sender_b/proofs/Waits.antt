@@ -17,14 +17,15 @@ use Rattle.payload.specs.Scrambler.{start, scrambledFrom, registerAfter}
 use Rattle.payload.proofs.Scrambling.{register-more}
 use Rattle.packed.proofs.Amid.{zeros, from-zeros}
 use Rattle.symbols.proofs.Rooms.{both-true}
-use Rattle.payload_b.specs.CodedB.{blockBytes, codedB, bitsFor, filledUp}
+use Rattle.payload_b.specs.CodedB.{blockBytes, blocksIn, codedFrom, codedB, bitsFor, filledUp}
 use Rattle.payload_b.specs.PlanB.{Sendable}
-use Rattle.payload_b.proofs.Blockwise.{coded-none}
+use Rattle.payload_b.proofs.Plans.{whole-blocks}
+use Rattle.payload_b.proofs.Blockwise.{coded-none, length-coded, coded-append}
 use Rattle.sender_b.specs.declared.sender.Outgoing.{Outgoing}
 use Rattle.sender_b.specs.declared.sender.Run.{Run}
 use Rattle.sender_b.specs.Steps.{Piece, codedPiece, Ready, isShort, made, Waiting, Grows, Gone}
 use Rattle.sender_b.proofs.Zeros.{take-padded, drop-padded, front-gone, run-window, put-in}
-use Rattle.sender_b.proofs.Pieces.{whole-more, whole-left, pieceOf, coded-append, length-piece, piece-is, few-bits}
+use Rattle.sender_b.proofs.Pieces.{whole-more, whole-left, piece-is, few-bits}
 
 -- ---- at first
 
@@ -37,8 +38,8 @@ ready-none {mode} p = record { known = p .known; blocks = p .whole; low = omega 
 
 pub waiting-none : (mode : ℕ) (frame : List ℕ) → Waiting mode frame 0 (record { bits = zeros 41; going = nothing })
 waiting-none mode frame = record {
-  held = from-zeros 41 41 0 ∙ sym (ap (paddedTo 2624) (coded-none mode));
-  counted = sym (ap length (coded-none mode));
+  held = from-zeros 41 41 0 ∙ sym (ap (paddedTo 2624) (coded-none mode start));
+  counted = sym (ap length (coded-none mode start));
   ahead = λ _. omega arith;
 }
 
@@ -50,13 +51,13 @@ module _ {mode : ℕ} {frame : List ℕ} {o : Outgoing} (r : Ready mode frame o)
 
   -- what is sent for it, and for whole blocks behind it
   front-more : (g : List ℕ) → length g % blockBytes mode ≡ 0
-      → codedB mode (take (o .at) frame ++ g) ≡ codedB mode (take (o .at) frame) ++ pieceOf mode (o .register) g
+      → codedB mode (take (o .at) frame ++ g) ≡ codedB mode (take (o .at) frame) ++ codedFrom mode (o .register) g
   front-more g whole =
-      coded-append mode (take (o .at) frame) g (ap (λ (n : ℕ). n % blockBytes mode) front-long ∙ r .whole) whole (o .register)
-      (r .carried ∙ ap (λ (n : ℕ). registerAfter (8 * n) start) (sym front-long))
+      coded-append mode start (blocksIn mode (o .at)) (take (o .at) frame) (front-long ∙ whole-blocks mode (o .at) (r .whole)) (o .register)
+      (r .carried ∙ ap (λ (n : ℕ). registerAfter (8 * n) start) (sym front-long)) (blocksIn mode (length g)) g (whole-blocks mode (length g) whole)
 
   -- for all of the frame
-  pub all-made : codedB mode frame ≡ codedB mode (take (o .at) frame) ++ pieceOf mode (o .register) (drop (o .at) frame)
+  pub all-made : codedB mode frame ≡ codedB mode (take (o .at) frame) ++ codedFrom mode (o .register) (drop (o .at) frame)
   all-made =
       let whole = ap (λ (n : ℕ). n % blockBytes mode) (length-drop (o .at) frame) ∙ whole-left mode (length frame) (o .at) (r .blocks) (r .whole) in
       ap (codedB mode) (sym (take-append-drop (o .at) frame)) ∙ front-more (drop (o .at) frame) whole
@@ -77,13 +78,13 @@ module _ {mode : ℕ} {frame : List ℕ} {o : Outgoing} (r : Ready mode frame o)
     part-one not = part-long ∙ p .one not
 
     abbrev more : List ℕ
-    more = pieceOf mode (o .register) part
+    more = codedFrom mode (o .register) part
 
     made-more : codedB mode (take (o .at + n) frame) ≡ codedB mode (take (o .at) frame) ++ more
     made-more = ap (codedB mode) (take-add (o .at) n frame) ∙ front-more part (ap (λ (k : ℕ). k % blockBytes mode) part-long ∙ p .whole)
 
     more-long : length more ≡ bitsFor mode n
-    more-long = length-piece mode (o .register) part part-one ∙ ap (bitsFor mode) part-long
+    more-long = length-coded mode (o .register) (blocksIn mode n) part (part-long ∙ whole-blocks mode n (p .whole))
 
     pub ready-more : (count : ℕ) {register : ℕ} → register ≡ registerAfter (8 * length (take 64 part)) (o .register)
         → Ready mode frame (record { count = count; at = o .at + n; register = register })
@@ -161,7 +162,7 @@ module _ {mode : ℕ} {frame : List ℕ} {sum sent : ℕ} {run : Run} (r : Ready
           ∙ sym (ap (take sum) (drop-padded sent n (codedB mode frame)) ∙ take-padded sum (n - sent) (drop sent (codedB mode frame)) (omega arith))
       by (no not) =
           let old = made mode frame run in
-          let rest = pieceOf mode (run .going .register) (drop (run .going .at) frame) in
+          let rest = codedFrom mode (run .going .register) (drop (run .going .at) frame) in
           let fill = zeros (n - length (codedB mode frame)) in
           let left : run .going .at < length frame = omega arith in
           let long : sum ≤ length (drop sent old) = omega (arith, w .counted, full left) in

@@ -85,7 +85,7 @@ fn is_readable(m: usize, scheme: &[u8], i: &[i16], q: &[i16]) -> bool
 }
 
 // Whether a scheme has 210 entries, each from 2 to 10.
-fn is_scheme(scheme: &[u8]) -> bool
+pub fn is_scheme(scheme: &[u8]) -> bool
     ensures { λ r. ⌜ r ≡ (eqb (length (now (scheme .entry))) symbolPoints && eqb (badEntry (now (scheme .entry))) symbolPoints) ⌝ }
 {
     if scheme.len() != POINTS {

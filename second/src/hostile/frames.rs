@@ -10,30 +10,30 @@ use crate::{bch, bits, scrambler};
 
 /// Bits of a block as sent, and bytes of its information, by mode.
 const BLOCK_BITS: [usize; 3] = [8, 508, 504];
-const BLOCK_BYTES: [usize; 3] = [1, 59, 54];
+pub const BLOCK_BYTES: [usize; 3] = [1, 59, 54];
 
 /// The most symbols of a frame.
-const SYMBOLS: usize = 256;
+pub const SYMBOLS: usize = 256;
 
 /// A frame that can be sent.
-struct Frame {
-    mode: usize,
-    scheme: Vec<u8>,
-    bytes: Vec<u8>,
+pub struct Frame {
+    pub mode: usize,
+    pub scheme: Vec<u8>,
+    pub bytes: Vec<u8>,
 }
 
 impl Frame {
-    fn plan(&self) -> Plan {
+    pub fn plan(&self) -> Plan {
         plan(self.mode as u8, self.bytes.len() as u64, &self.scheme).expect("a frame that fits")
     }
 
     /// Bits of a symbol.
-    fn sum(&self) -> usize {
+    pub fn sum(&self) -> usize {
         self.scheme.iter().map(|&bits| bits as usize).sum()
     }
 
     /// The most blocks that so many symbols hold.
-    fn blocks_of(&self, symbols: usize) -> usize {
+    pub fn blocks_of(&self, symbols: usize) -> usize {
         symbols * self.sum() / BLOCK_BITS[self.mode]
     }
 }
@@ -85,13 +85,12 @@ pub fn receive(rng: &mut Rng) -> Request {
     let short = some_of(rng, 3, faults.has(3));
     lent::fit(rng, &mut i, short[0]);
     lent::fit(rng, &mut q, short[1]);
-    let room = if length <= 2 * frame.bytes.len() as u64 { length as usize } else { frame.bytes.len() };
-    let area = lent::bytes(rng, room.min(MOST_BYTES), short[2]);
+    let area = lent::bytes(rng, room_for(length, &frame), short[2]);
     let scheme = told_scheme(rng, &faults, frame.scheme);
     Request::ReceiveB { mode: told_mode(rng, &faults, frame.mode), length, scheme, i, q, area }
 }
 
-fn told_mode(rng: &mut Rng, faults: &Faults, mode: usize) -> u8 {
+pub fn told_mode(rng: &mut Rng, faults: &Faults, mode: usize) -> u8 {
     if faults.has(1) {
         unknown(rng, 0..=2)
     } else if rng.once_in(60) {
@@ -138,7 +137,7 @@ fn all_labels(rng: &mut Rng) -> Frame {
 }
 
 /// A scheme: all alike, at random, two kinds, a ramp, or with a sum at the edge of a block.
-fn any_scheme(rng: &mut Rng, low: bool) -> Vec<u8> {
+pub fn any_scheme(rng: &mut Rng, low: bool) -> Vec<u8> {
     if low && !rng.once_in(8) {
         let other = rng.between(2, 3) as u8;
         return (0..AVAILABLE).map(|_| rng.pick(&[2, 2, 2, other])).collect();
@@ -168,7 +167,7 @@ fn scheme_of_sum(rng: &mut Rng) -> Vec<u8> {
 }
 
 /// The scheme as it is; or of a wrong length, with entries outside 2..10 at the edges, or both.
-fn told_scheme(rng: &mut Rng, faults: &Faults, mut scheme: Vec<u8>) -> Vec<u8> {
+pub fn told_scheme(rng: &mut Rng, faults: &Faults, mut scheme: Vec<u8>) -> Vec<u8> {
     if !faults.has(5) {
         return scheme;
     }
@@ -213,7 +212,7 @@ fn wrong_length(rng: &mut Rng, mode: usize, right: usize) -> usize {
 }
 
 /// The length a receiver is told: mostly the true one.
-fn told_length(rng: &mut Rng, faults: &Faults, frame: &Frame) -> u64 {
+pub fn told_length(rng: &mut Rng, faults: &Faults, frame: &Frame) -> u64 {
     let (length, unit) = (frame.bytes.len() as u64, BLOCK_BYTES[frame.mode] as u64);
     if faults.has(2) {
         let wrong = wrong_length(rng, frame.mode, frame.bytes.len()) as u64;
@@ -229,6 +228,12 @@ fn told_length(rng: &mut Rng, faults: &Faults, frame: &Frame) -> u64 {
         2 => frame.blocks_of(SYMBOLS) as u64 * unit,
         _ => length,
     }
+}
+
+/// How many bytes are lent for a frame that is told to have this length.
+pub fn room_for(length: u64, frame: &Frame) -> usize {
+    let room = if length <= 2 * frame.bytes.len() as u64 { length as usize } else { frame.bytes.len() };
+    room.min(MOST_BYTES)
 }
 
 /// A legal length of too many symbols: just too many, or so many that some number on the way wraps round.
@@ -254,11 +259,17 @@ fn too_long(rng: &mut Rng, frame: &Frame) -> u64 {
 
 /// The bits of whole symbols for a frame: blocks hit, and a fill that need not be zeros.
 fn damaged(rng: &mut Rng, faults: &Faults, frame: &Frame) -> Vec<u8> {
+    let blocks = frame.plan().blocks();
+    let hopeless = if frame.mode > 0 && faults.has(9) { vec![place(rng, blocks), place(rng, blocks)] } else { vec![] };
+    with_hopeless(rng, frame, &hopeless)
+}
+
+/// The same, with these blocks hopeless.
+pub fn with_hopeless(rng: &mut Rng, frame: &Frame, hopeless: &[usize]) -> Vec<u8> {
     let plan = frame.plan();
     let mut sent = plan.coded(&scrambler::scrambled(&bits::of_bytes(&frame.bytes)));
     if let Some(code) = bch::code(frame.mode as u8) {
         let blocks = sent.len() / code.n;
-        let hopeless: Vec<usize> = if faults.has(9) { vec![place(rng, blocks), place(rng, blocks)] } else { vec![] };
         let hits = mendable(rng, code.t, blocks);
         for (number, block) in sent.chunks_mut(code.n).enumerate() {
             if hopeless.contains(&number) {

@@ -35,7 +35,8 @@ within s = omega (arith, s .pre .sane .partial, block-bits-few (s .args .mode), 
 returns : tie.Need-returns
 returns c =
     let s = start (c .before) in
-    goes-past _ (s .pre .sane) (not-wanted (s .args .plan .blocks) (s .args .from .tally) (sym (c .before .is-wanting .ensures) ∙ not-true _ (c .if1 .taken)))
+    goes-past (s .pre .known) _ (s .pre .sane)
+    (not-wanted (s .args .plan .blocks) (s .args .from .tally) (sym (c .before .is-wanting .ensures) ∙ not-true _ (c .if1 .taken)))
 
 take-run-requires : tie.Need-take-run-requires
 take-run-requires c κs =

@@ -7,7 +7,7 @@ use borrow.Rule.Slice.PartMut.{mid-len}
 use Rattle.packed.specs.Packed.{bits512}
 use Rattle.receiver_b.specs.Steps.{TakesIn}
 use Rattle.receiver_b.proofs.Receiving.{bitsRead, symbol-none, symbol-part}
-use Rattle.receiver_b.proofs.Taking.{goes-nowhere, goes-on}
+use Rattle.receiver_b.proofs.Taking.{moves-none, goes-on}
 use borrow.Author.Needs.{needs}
 use Rattle.receiver_b.proofs.stream.take_symbols.Statement.{statement}
 use Rattle.receiver_b.proofs.stream.take_symbols.Tie as tie
@@ -26,7 +26,7 @@ first c = c .before .before .before
 loop-holds : tie.Need-loop-holds Inv-loop μ-loop
 loop-holds c =
     let s = c .before .before in
-    (omega arith, rw (symbol-none (s .args .quadrants .now) (s .args .scheme .now) (s .args .i .now) (s .args .q .now)) (goes-nowhere (s .pre .sane)))
+    (omega arith, rw (symbol-none (s .args .quadrants .now) (s .args .scheme .now) (s .args .i .now) (s .args .q .now)) (s .pre .sane, moves-none))
 
 take-symbol-requires : tie.Need-take-symbol-requires Inv-loop μ-loop
 take-symbol-requires c κs =

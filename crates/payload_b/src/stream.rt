@@ -1,0 +1,89 @@
+// The state of a stream: what is kept of a frame of Payload B between one OFDM symbol and the next (document 02, item 5). It is a value that a caller hands in
+// and gets back, and any value may come in.
+ghost use mathlib.Core.Path.{_≡_};
+ghost use Rattle.payload_b.specs.PromiseB.{mendsB};
+ghost use Rattle.payload_b.specs.StreamB.{Judges};
+use crate::plan;
+use crate::plan::Plan;
+use crate::plan::Verdict;
+use answers::Refusal;
+use payload::ahead;
+use symbols::grid::POINTS;
+
+// Whether a stream goes on, or was refused; then it repeats that refusal.
+pub enum Course {
+    Open,
+    Refused(Refusal),
+}
+
+// The scheme, the unfinished block, its bits at the front and zeros behind them, and how many they are; mode and frame length; the OFDM symbols taken in, the
+// scrambler's register, the bits mended, in all and in the worst block.
+pub struct State {
+    pub scheme: [u8; POINTS],
+    pub block: [u64; 8],
+    pub count: usize,
+    pub mode: u8,
+    pub size: usize,
+    pub seen: usize,
+    pub register: u16,
+    pub mended: usize,
+    pub worst: usize,
+    pub course: Course,
+}
+
+// How far a state is: the plan of its frame, and the blocks that are done.
+pub struct Stage {
+    pub plan: Plan,
+    pub done: usize,
+}
+
+// An opening and steps can give the state, and it is so far; or they cannot.
+pub enum Found {
+    Sound(Stage),
+    Forged,
+}
+
+// How many bits are mended in a block.
+fn mends(mode: u8) -> usize
+    ensures { λ r. ⌜ r ≡ mendsB mode ⌝ }
+{
+    if mode == 0 {
+        return 0;
+    }
+    if mode == 1 { 4 } else { 8 }
+}
+
+// Whether an opening and steps can give a state that is open.
+pub fn judged(s: State) -> Found
+    ensures { λ r. ⌜ Judges s r ⌝ }
+{
+    let Verdict::Passes(plan) = plan::judged(s.mode, s.size, &s.scheme) else {
+        return Found::Forged;
+    };
+    if plan.symbols < s.seen {
+        return Found::Forged;
+    }
+    let bits = plan.sum * s.seen;
+    let size = plan::block_bits(s.mode);
+    let done = packed::least(bits / size, plan.blocks);
+    let count = if done < plan.blocks { bits % size } else { 0 };
+    if s.count != count {
+        return Found::Forged;
+    }
+    if s.register != ahead::register_after(plan::block_bytes(s.mode) * done) {
+        return Found::Forged;
+    }
+    if !packed::ends_at(&s.block, count) {
+        return Found::Forged;
+    }
+    if mends(s.mode) < s.worst {
+        return Found::Forged;
+    }
+    if s.mended < s.worst {
+        return Found::Forged;
+    }
+    if s.worst * done < s.mended {
+        return Found::Forged;
+    }
+    Found::Sound(Stage { plan, done })
+}
