@@ -48,6 +48,15 @@ block-bits-few = by-mode (λ k n. n ≤ 508) (omega arith) (omega arith) (omega 
 pub block-whole : (mode : ℕ) → 8 * blockBytes mode ≤ blockBits mode
 block-whole = by-mode (λ k n. 8 * k ≤ n) (omega arith) (omega arith) (omega arith)
 
+-- no more bits can be mended in a block than it has bytes
+pub mends-few : (mode : ℕ) → mendsB mode ≤ blockBytes mode
+mends-few mode = by (eqb mode 0) (eqb mode 1)
+  where
+    by : (a b : Bool) → cond a 0 (cond b code1 code2 .t) ≤ cond a 1 (cond b 59 54)
+    by true b = omega arith
+    by false true = omega arith
+    by false false = omega arith
+
 -- ---- the modes
 
 -- a coded mode is the number of its code

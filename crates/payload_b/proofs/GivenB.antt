@@ -4,28 +4,25 @@ use mathlib.Core.Path.{_≡_, refl, sym, ap, subst, _∙_}
 use mathlib.Core.Logic.{inl, inr}
 use mathlib.Core.Bool.{Bool, true, false, _&&_, true≢false}
 use mathlib.Core.List.{List, [], _∷_}
-use Prim.Native.Nat.{ℕ, suc, _+_, _-_, _*_, _≤_, _<_, max}
+use Prim.Native.Nat.{ℕ, suc, _+_, _*_, _≤_, _<_, max}
 use native.Mathlib.Nat.{le-max-left, le-max-right, max-le, mul-add, mul-comm, mul-zero, mul-le-mul-right}
 use native.Mathlib.Decide.{ℕ-discrete}
 use native.Mathlib.Omega.{arith}
 use borrow.Author.Tests.{ltb-true}
 use lib.Dec.{leb, ltb}
 use lib.IntN.{ℤ}
-use lib.ListN.{length, take, drop, replicate, length-drop}
-use lib.Seq.{take-at, length-take-le}
+use lib.ListN.{length, take, drop, length-drop}
+use lib.Seq.{length-take-le}
 use Rattle.answers.specs.Checks.{Checked, fails, passes}
 use Rattle.answers.specs.declared.Refusal.{Refusal}
 use Rattle.answers.specs.declared.ReceivedB.{ReceivedB}
 use Rattle.answers.proofs.Telling.{by-test}
 use Rattle.bits.specs.Words.{Bits, differ}
 use Rattle.bits.proofs.Digits.{bits-take, bits-drop, bits-append}
-use Rattle.bits.proofs.Copies.{bits-zeros}
 use Rattle.bits.proofs.Distances.{differ-nil}
-use Rattle.packed.specs.Packed.{bits512, padded, wordsOf}
+use Rattle.packed.specs.Packed.{bits512}
 use Rattle.packed.proofs.Walks.{bits-512}
 use Rattle.packed.proofs.Fronts.{zeros-512}
-use Rattle.packed.proofs.Paddings.{length-padded}
-use Rattle.packed.proofs.Wordings.{bits-words}
 use Rattle.symbols.specs.Grids.{pointsFrom, room}
 use Rattle.symbols.specs.Schemes.{labelled}
 use Rattle.symbols.proofs.Labelled.{bits-labelled}
@@ -58,9 +55,8 @@ use Rattle.payload_b.specs.StreamedB.{Given, opened, stepped}
 use Rattle.payload_b.specs.declared.stream.State.{State}
 use Rattle.payload_b.specs.declared.stream.Course.{Course}
 use Rattle.payload_b.specs.declared.stream.Course.the-variants.{Open, Refused}
-use Rattle.payload_b.proofs.Blocks.{block-bits-few}
 use Rattle.payload_b.proofs.Blockwise.{blocks-in, length-coded}
-use Rattle.payload_b.proofs.StatesB.{after-none, wait-few, bits-most, sound-kept, kept-sound, now-whole, now-long, now-few}
+use Rattle.payload_b.proofs.StatesB.{after-none, wait-low, bits-most, words-behind, sound-kept, kept-sound, now-whole, now-long, now-few}
 use Rattle.payload_b.proofs.OnceB.{by-plan}
 
 -- ---- what is mended in blocks, of which there may be none
@@ -88,20 +84,6 @@ module _ (w : Wire) (bits frame : List ℕ) (ls : length (w .sent frame) ≡ w .
       by (no not) =
           let q = quality w bits frame (omega arith) ls lb fits in
           (q .near, q .low, q .high)
-
--- ---- bits that wait in machine words, with zeros behind them
-
-module _ (word : List ℕ) (n : ℕ) (long : length word ≡ n) (few : n ≤ 512) (each : Bits word) where
-  pub words-hold : bits512 (wordsOf 8 (padded word)) ≡ padded word
-  words-hold =
-      bits-words (padded word) (length-padded word (omega arith))
-      (bits-append word (replicate (512 - length word) 0) each (bits-zeros (512 - length word)))
-
-  pub words-front : take n (bits512 (wordsOf 8 (padded word))) ≡ word
-  words-front = ap (take n) words-hold ∙ take-at word (replicate (512 - length word) 0) n long
-
-  pub words-behind : bits512 (wordsOf 8 (padded word)) ≡ padded (take n (bits512 (wordsOf 8 (padded word))))
-  words-behind = words-hold ∙ ap padded (sym words-front)
 
 -- ---- nothing seen yet
 
@@ -170,7 +152,7 @@ module _ (s : State) (kept : Kept s) (is qs : List ℤ) where
               ∙ ap (λ (k : ℕ). registerAfter k start) (sym (mul-add 8 done now) ∙ ap (λ (k : ℕ). 8 * k) (so-many (blockBytes (s .mode))));
           behind =
               words-behind (take (waitNext s) rest) (waitNext s) wait-long
-              (omega (arith, wait-few (kept .sendable) (suc (s .seen)), block-bits-few (s .mode))) wait-bits;
+              (wait-low (kept .sendable) (suc (s .seen))) wait-bits;
           near = max-le (kept .near) (b .0);
           least = max-le (omega (arith, kept .least)) (omega (arith, b .1));
           most =

@@ -6,7 +6,6 @@ use mathlib.Core.Bool.{true}
 use mathlib.Core.List.{List, [], _++_, append-nil}
 use Prim.Native.Nat.{ℕ, zero, suc, _+_, _-_, _*_, _≤_, _<_, min, max}
 use native.Mathlib.Nat.{mul-suc, mul-add, mul-zero}
-use native.Mathlib.Decide.{ℕ-discrete}
 use native.Mathlib.Omega.{arith}
 use borrow.Author.Tests.{lt-ltb, le-leb}
 use lib.Dec.{lit<}
@@ -37,7 +36,7 @@ use Rattle.symbols.proofs.Mapping.{length-mapped, entries-repeated, points-mapp
 use Rattle.payload.specs.Scrambler.{start, registerAfter}
 use Rattle.payload.specs.Wire.{worstOf, total, Fits}
 use Rattle.payload_b.specs.CodedB.{blockBytes, blockBits, symbolsFor, codedFrom}
-use Rattle.payload_b.specs.PromiseB.{pointsCheckedB, mendsB}
+use Rattle.payload_b.specs.PromiseB.{pointsCheckedB}
 use Rattle.payload_b.specs.PlanB.{Sendable}
 use Rattle.payload_b.specs.StreamB.{
   blocksAfter,
@@ -59,11 +58,22 @@ use Rattle.payload_b.specs.StreamedB.{Given, opened, stepped}
 use Rattle.payload_b.specs.declared.stream.State.{State}
 use Rattle.payload_b.specs.declared.stream.Course.the-variants.{Open}
 use Rattle.payload_b.proofs.Plans.{plan-passes}
-use Rattle.payload_b.proofs.Blocks.{block-bits-least, block-bits-few, coded}
+use Rattle.payload_b.proofs.Blocks.{block-whole, mends-few}
 use Rattle.payload_b.proofs.Blockwise.{blocks-in, bits-coded, length-coded}
 use Rattle.payload_b.proofs.VerdictsB.{legal}
-use Rattle.payload_b.proofs.StatesB.{after-none, after-more, wait-few, sound-kept, kept-sound, now-whole, hand-long}
-use Rattle.payload_b.proofs.GivenB.{words-front, words-hold, words-behind, fresh-kept, onward-kept}
+use Rattle.payload_b.proofs.StatesB.{
+  after-none,
+  after-more,
+  wait-low,
+  words-hold,
+  words-front,
+  words-behind,
+  sound-kept,
+  kept-sound,
+  now-whole,
+  hand-long,
+}
+use Rattle.payload_b.proofs.GivenB.{fresh-kept, onward-kept}
 use Rattle.payload_b.proofs.GivenFlips.{Spoilt, spoilt}
 
 -- ---- an OFDM symbol of these bits
@@ -147,13 +157,6 @@ module _ {mode n : ℕ} {scheme : List ℕ} (sendable : Sendable mode n scheme) 
     course = Open;
   }
 
-  mends-few : mendsB mode ≤ blockBits mode
-  mends-few = by (ℕ-discrete mode 0)
-    where
-      by : Dec (mode ≡ 0) → mendsB mode ≤ blockBits mode
-      by (yes z) = rw z (omega arith)
-      by (no not) = omega (arith, coded mode (sendable .known) not .few, block-bits-least mode)
-
   -- ---- before the last OFDM symbol
 
   module _ (k : ℕ) (block : List ℕ) (mended largest : ℕ) (kept : Kept (seenSo (suc k) block mended largest)) (held : wordsOf 8 (bits512 block) ≡ block) where
@@ -186,8 +189,8 @@ module _ {mode n : ℕ} {scheme : List ℕ} (sendable : Sendable mode n scheme) 
     -- the blocks now, as they are received
     wrong : Spoilt (blockBits mode) largest now sent (mendedNow largest mended done)
     wrong =
-        spoilt (blockBits mode) largest (omega (arith, kept .near, mends-few)) now sent sent-long (bits-coded mode register out) (mendedNow largest mended done)
-        (most-now largest mended done now (kept .least) most)
+        spoilt (blockBits mode) largest (omega (arith, kept .near, mends-few mode, block-whole mode)) now sent sent-long (bits-coded mode register out)
+        (mendedNow largest mended done) (most-now largest mended done now (kept .least) most)
 
     -- behind them the bits that wait, and fill
     abbrev next : ℕ
@@ -197,7 +200,7 @@ module _ {mode n : ℕ} {scheme : List ℕ} (sendable : Sendable mode n scheme) 
     waiting = take next (bits512 block)
 
     waiting-long : length waiting ≡ next
-    waiting-long = length-take-le next (bits512 block) (omega (arith, length-512 block, wait-few sendable (suc k), block-bits-few mode))
+    waiting-long = length-take-le next (bits512 block) (omega (arith, length-512 block, wait-low sendable (suc k)))
 
     abbrev fill : List ℕ
     fill = replicate (wait + sumOf scheme - (blockBits mode * now + next)) 0
@@ -231,23 +234,20 @@ module _ {mode n : ℕ} {scheme : List ℕ} (sendable : Sendable mode n scheme) 
     abbrev before : State
     before = seenSo k (wordsOf 8 (padded front)) (mendedBefore largest mended done) (worstBefore largest mended done)
 
-    wait-low : wait ≤ 512
-    wait-low = omega (arith, wait-few sendable k, block-bits-few mode)
-
     before-kept : Kept before
     before-kept = record {
       sendable = sendable;
       within = omega (arith, kept .within);
       waits = refl;
       carried = refl;
-      behind = words-behind front wait front-long wait-low (bits-take wait hand hand-bits);
+      behind = words-behind front wait front-long (wait-low sendable k) (bits-take wait hand hand-bits);
       near = omega (arith, kept .near);
       least = omega arith;
       most = most-before largest mended done now (kept .least) most;
     }
 
     before-held : wordsOf 8 (bits512 (before .block)) ≡ before .block
-    before-held = ap (wordsOf 8) (words-hold front wait front-long wait-low (bits-take wait hand hand-bits))
+    before-held = ap (wordsOf 8) (words-hold front wait front-long (wait-low sendable k) (bits-take wait hand hand-bits))
 
     -- ---- the last OFDM symbol
 
@@ -268,7 +268,7 @@ module _ {mode n : ℕ} {scheme : List ℕ} (sendable : Sendable mode n scheme) 
 
     at-hand : atHand before is qs ≡ hand
     at-hand =
-        ap₂ _++_ (words-front front wait front-long wait-low (bits-take wait hand hand-bits))
+        ap₂ _++_ (words-front front wait front-long (wait-low sendable k) (bits-take wait hand hand-bits))
         (symbol-read (sendable .entries) bits bits-long bits-each)
         ∙ take-append-drop wait hand
 

@@ -123,6 +123,21 @@ module _ (mode base register d j : ℕ) (carried : register ≡ registerAfter (8
 
 -- ---- the first that is hopeless
 
+-- it is the first as well of other bits, where it and the blocks before it are the same
+pub hopeless-same : {c : Code} {k j m : ℕ} {bits bits' : List ℕ} → FirstHopeless c k bits m → m < j
+    → ((b : ℕ) → b ≤ m → blockAt (c .n) b bits' ≡ blockAt (c .n) b bits) → FirstHopeless c j bits' m
+hopeless-same {m = m} h l same = record {
+  one = l;
+  none = λ p. h .none (p .0, rw (same m (omega arith)) at (p .1));
+  before = λ b lb. rw (same b (omega arith)) (h .before b lb);
+}
+
+-- whatever comes behind it
+pub hopeless-kept : {c : Code} {k j m : ℕ} {bits : List ℕ} → FirstHopeless c k bits m → m < j → c .n * suc m ≤ length bits → (more : List ℕ)
+    → FirstHopeless c j (bits ++ more) m
+hopeless-kept {c} {m = m} {bits} h l whole more =
+    hopeless-same h l (λ b lb. let low = one-more (c .n) b (suc m) (omega arith) in block-kept (c .n) bits more b (omega arith))
+
 -- behind d blocks that fit
 module _ (mode base d j : ℕ) (known : mode ≤ 2) (not : mode ≢ 0) (bits more f : List ℕ) (lb : length bits ≡ blockBits mode * d)
     (fits : Fits (wireFrom mode base (blockBytes mode * d)) bits f) where
@@ -155,10 +170,4 @@ module _ (mode base d j : ℕ) (known : mode ≤ 2) (not : mode ≢ 0) (bits mor
 pub hopeless-more : (c : Code) (d m : ℕ) → d ≤ m → (front more : List ℕ) → length front ≡ c .n * d → (block : ℕ) → FirstHopeless c d front block
     → FirstHopeless c m (front ++ more) block
 hopeless-more c d m l front more long block hopeless =
-    let kept : (b : ℕ) → b < d → blockAt (c .n) b (front ++ more) ≡ blockAt (c .n) b front
-    = λ b h. let low = one-more (c .n) b d h in block-kept (c .n) front more b (omega arith) in
-    record {
-      one = omega (arith, hopeless .one);
-      none = λ p. hopeless .none (p .0, rw (kept block (hopeless .one)) at (p .1));
-      before = λ b h. rw (kept b (omega (arith, hopeless .one))) (hopeless .before b h);
-    }
+    hopeless-kept hopeless (omega (arith, hopeless .one)) (omega (arith, one-more (c .n) block d (hopeless .one))) more

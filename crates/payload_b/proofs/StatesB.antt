@@ -8,23 +8,27 @@ use native.Mathlib.Decide.{decLt}
 use native.Mathlib.Nat.{mul-zero, mul-suc, mul-add, zero-div, mod-lt, div-add-mod, mul-le-mul, mul-le-mul-left, le-div-iff-mul-le, add-mul-div-left}
 use native.Mathlib.Omega.{arith}
 use borrow.Author.Tests.{leb-true, eqb-true, lt-ltb, le-ltb, le-leb, eq-eqb}
-use lib.Dec.{eqb, ltb}
+use lib.Dec.{ltb}
 use lib.IntN.{ℤ}
-use lib.ListN.{length, take, length-append}
-use lib.Seq.{length-take-le}
+use lib.ListN.{length, take, replicate, length-append}
+use lib.Seq.{take-at, length-take-le}
 use Rattle.answers.specs.Checks.{passes}
-use Rattle.bits.specs.Words.{differ}
+use Rattle.bits.specs.Words.{Bits, differ}
+use Rattle.bits.proofs.Digits.{bits-append}
+use Rattle.bits.proofs.Copies.{bits-zeros}
 use Rattle.bits.proofs.Distances.{differ-self, differ-zero}
-use Rattle.packed.specs.Packed.{bits512, padded}
+use Rattle.packed.specs.Packed.{bits512, padded, wordsOf}
 use Rattle.packed.proofs.Walks.{length-512}
+use Rattle.packed.proofs.Paddings.{length-padded}
+use Rattle.packed.proofs.Wordings.{bits-words}
 use Rattle.points.specs.declared.Point.{Point}
 use Rattle.symbols.specs.Grids.{pointsFrom, received}
 use Rattle.symbols.specs.Schemes.{sumOf, repeated, labelled}
 use Rattle.symbols.proofs.Mapping.{length-symbols}
-use Rattle.symbols.proofs.Schemes.{sum-most}
-use Rattle.bch.specs.Codes.{code1, code2}
+use Rattle.symbols.proofs.Schemes.{sum-least, sum-most}
+use Rattle.payload.proofs.Wires.{one-more}
 use Rattle.payload_b.specs.CodedB.{blockBits, blocksIn, symbolsFor}
-use Rattle.payload_b.specs.PromiseB.{planned, mendsB}
+use Rattle.payload_b.specs.PromiseB.{planned}
 use Rattle.payload_b.specs.PlanB.{Sendable}
 use Rattle.payload_b.specs.StreamB.{blocksAfter, waitAfter, doneIn, doneNext, allPass, sound, Kept, atHand, blocksNow, bitsNow, waitNext}
 use Rattle.payload_b.specs.declared.stream.State.{State}
@@ -40,9 +44,6 @@ module _ (b n : ℕ) (pos : 0 < b) where
 
   abbrev wait : ℕ → ℕ
   wait x = cond (ltb (done x) n) (x % b) 0
-
-  quotient-most : (m x : ℕ) → b * m ≤ x → m ≤ x / b
-  quotient-most m x l = le-div-iff-mul-le pos .1 (omega (arith, l))
 
   some-wait : (x : ℕ) → done x < n → wait x ≡ x % b
   some-wait x l = rw (lt-ltb (done x) n l) refl
@@ -73,13 +74,24 @@ module _ (b n : ℕ) (pos : 0 < b) where
           rw (none-waits x (omega arith), e) (omega (arith, div-add-mod x b, mul-le-mul-left b low))
 
   more-done : (x y : ℕ) → done x ≤ done (x + y)
-  more-done x y = let l : x / b ≤ (x + y) / b = quotient-most (x / b) (x + y) (omega (arith, div-add-mod x b)) in omega arith
+  more-done x y = let l : x / b ≤ (x + y) / b = le-div-iff-mul-le pos .1 (omega (arith, div-add-mod x b)) in omega arith
 
   next-done : (x y : ℕ) → done x < n → done (x + y) ≡ done x + min ((wait x + y) / b) (n - done x)
   next-done x y l =
       let e : x + y ≡ wait x + y + b * done x = omega (arith, all-bits x l) in
       let q : (x + y) / b ≡ (wait x + y) / b + done x = ap (λ (z : ℕ). z / b) e ∙ add-mul-div-left (wait x + y) (done x) pos in
       omega arith
+
+  -- n blocks need so many OFDM symbols of s bits: fewer do not complete all
+  not-all : (s k : ℕ) → 0 < s → k < (b * n + (s - 1)) / s → done (s * k) < n
+  not-all s k some l = by (decLt (done (s * k)) n)
+    where
+      by : Dec (done (s * k) < n) → done (s * k) < n
+      by (yes h) = h
+      by (no h) =
+          let e : done (s * k) ≡ n = omega arith in
+          let most : b * n ≤ s * k = omega (arith, rw e at (most-bits (s * k))) in
+          absurd (omega (arith, most, one-more s k ((b * n + (s - 1)) / s) l, div-add-mod (b * n + (s - 1)) s))
 
 -- ---- after m OFDM symbols
 
@@ -97,8 +109,13 @@ module _ {mode n : ℕ} {scheme : List ℕ} (sendable : Sendable mode n scheme) 
   after-all =
       let m = symbolsFor mode n scheme in
       let l : blocksIn mode n ≤ sumOf scheme * m / blockBits mode
-      = quotient-most (blockBits mode) (blocksIn mode n) (block-bits-pos mode) (blocksIn mode n) (sumOf scheme * m) (symbols-hold sendable) in
+      = le-div-iff-mul-le (block-bits-pos mode) .1 (omega (arith, symbols-hold sendable)) in
       omega arith
+
+  -- before the last OFDM symbol some blocks are not complete
+  pub before-all : (m : ℕ) → m < symbolsFor mode n scheme → blocksAfter mode n scheme m < blocksIn mode n
+  before-all m l =
+      not-all (blockBits mode) (blocksIn mode n) (block-bits-pos mode) (sumOf scheme) m (omega (arith, sum-least (sendable .entries))) l
 
   -- what waits is less than a block, and nothing waits where all blocks are done
   pub wait-few : (m : ℕ) → waitAfter mode n scheme m < blockBits mode
@@ -106,6 +123,10 @@ module _ {mode n : ℕ} {scheme : List ℕ} (sendable : Sendable mode n scheme) 
 
   pub wait-none : (m : ℕ) → blocksIn mode n ≤ blocksAfter mode n scheme m → waitAfter mode n scheme m ≡ 0
   wait-none m all = none-waits (blockBits mode) (blocksIn mode n) (block-bits-pos mode) (sumOf scheme * m) all
+
+  -- what waits has room in eight machine words
+  pub wait-low : (m : ℕ) → waitAfter mode n scheme m ≤ 512
+  wait-low m = omega (arith, wait-few m, block-bits-few mode)
 
   -- blocks and what waits are the bits of the OFDM symbols, until all blocks are done; there may be fill then
   pub bits-after : (m : ℕ) → blocksAfter mode n scheme m < blocksIn mode n
@@ -121,6 +142,20 @@ module _ {mode n : ℕ} {scheme : List ℕ} (sendable : Sendable mode n scheme) 
       ≡ blocksAfter mode n scheme m + min ((waitAfter mode n scheme m + sumOf scheme) / blockBits mode) (blocksIn mode n - blocksAfter mode n scheme m)
   after-next m few =
       rw (mul-suc (sumOf scheme) m) (next-done (blockBits mode) (blocksIn mode n) (block-bits-pos mode) (sumOf scheme * m) (sumOf scheme) few)
+
+-- ---- bits that wait in machine words, with zeros behind them
+
+module _ (word : List ℕ) (n : ℕ) (long : length word ≡ n) (few : n ≤ 512) (each : Bits word) where
+  pub words-hold : bits512 (wordsOf 8 (padded word)) ≡ padded word
+  words-hold =
+      bits-words (padded word) (length-padded word (omega arith))
+      (bits-append word (replicate (512 - length word) 0) each (bits-zeros (512 - length word)))
+
+  pub words-front : take n (bits512 (wordsOf 8 (padded word))) ≡ word
+  words-front = ap (take n) words-hold ∙ take-at word (replicate (512 - length word) 0) n long
+
+  pub words-behind : bits512 (wordsOf 8 (padded word)) ≡ padded (take n (bits512 (wordsOf 8 (padded word))))
+  words-behind = words-hold ∙ ap padded (sym words-front)
 
 -- ---- a sound state
 
@@ -150,14 +185,17 @@ sound-kept s e =
       most = leb-true _ _ (h .1);
     }
 
+-- no bit behind those that wait differs from zero
+pub none-behind : (s : State) → Kept s → differ (bits512 (s .block)) (padded (take (s .count) (bits512 (s .block)))) ≡ 0
+none-behind s k = let kept = padded (take (s .count) (bits512 (s .block))) in ap (λ (v : List ℕ). differ v kept) (k .behind) ∙ differ-self kept
+
 pub kept-sound : (s : State) → Kept s → sound s ≡ true
 kept-sound s k =
-    let kept = padded (take (s .count) (bits512 (s .block))) in
     all (ap allPass (plan-passes (k .sendable) (passes tt)))
     (all (le-leb _ _ (k .within))
     (all (eq-eqb _ _ (k .waits))
     (all (eq-eqb _ _ (k .carried))
-    (all (eq-eqb _ 0 (ap (λ (v : List ℕ). differ v kept) (k .behind) ∙ differ-self kept))
+    (all (eq-eqb _ 0 (none-behind s k))
     (all (le-leb _ _ (k .near))
     (all (le-leb _ _ (k .least)) (le-leb _ _ (k .most))))))))
   where
@@ -169,7 +207,7 @@ module _ (s : State) (kept : Kept s) (is qs : List ℤ) where
   pub hand-long : length (atHand s is qs) ≡ s .count + sumOf (s .scheme)
   unfolding repeated received
   hand-long =
-      let few : s .count ≤ 512 = omega (arith, kept .waits, wait-few (kept .sendable) (s .seen), block-bits-few (s .mode)) in
+      let few : s .count ≤ 512 = omega (arith, kept .waits, wait-low (kept .sendable) (s .seen)) in
       let points = pointsFrom is qs 1 210 in
       let one : length (labelled (s .scheme) points) ≡ sumOf (s .scheme) * 1
       = ap₂ (λ (ns : List ℕ) (ps : List Point). length (labelled ns ps)) (sym (append-nil (s .scheme))) (sym (append-nil points))
@@ -224,12 +262,3 @@ module _ {mode n : ℕ} {scheme : List ℕ} (sendable : Sendable mode n scheme) 
 
   pub done-few : blocksAfter mode n scheme m ≤ 67200
   done-few = omega (arith, seen-few, bits-most sendable m, mul-le-mul-left (blocksAfter mode n scheme m) (block-bits-least mode))
-
--- in every mode
-pub mends-most : (mode : ℕ) → mendsB mode ≤ 8
-mends-most mode = by (eqb mode 0) (eqb mode 1)
-  where
-    by : (a b : Bool) → cond a 0 (cond b code1 code2 .t) ≤ 8
-    by true b = omega arith
-    by false true = omega arith
-    by false false = omega arith

@@ -2,23 +2,20 @@
 -- Assumes nothing.
 use mathlib.Core.Path.{_≡_, refl, sym, ap, ap₂, subst, _∙_}
 use mathlib.Core.List.{List, [], _++_}
-use Prim.Native.Nat.{ℕ, suc, _+_, _-_, _*_, _/_, _≤_, _<_, min, max}
-use native.Mathlib.Nat.{zero-div, mul-zero, mul-suc, mul-add, mul-comm, div-add-mod, mul-le-mul-left}
+use Prim.Native.Nat.{ℕ, suc, _+_, _*_, _≤_, _<_, max}
+use native.Mathlib.Nat.{zero-div, mul-zero, mul-add, mul-comm}
 use native.Mathlib.Decide.{decLe}
 use native.Mathlib.Omega.{arith}
 use lib.IntN.{ℤ}
-use lib.ListN.{length, take, drop, replicate, length-append, length-drop, length-replicate}
-use lib.Seq.{take-at, drop-append-le, take-append-le, length-take-le, take-add, drop-drop, take-all}
+use lib.ListN.{length, take, drop, replicate, length-drop}
+use lib.Seq.{drop-append-le, take-append-le, length-take-le, take-add, drop-drop, take-all}
 use Rattle.bits.specs.Words.{Bits, differ}
 use Rattle.bits.specs.Bytes.{numberFrom}
-use Rattle.bits.proofs.Digits.{bits-take, bits-drop, bits-append}
-use Rattle.bits.proofs.Copies.{bits-zeros}
+use Rattle.bits.proofs.Digits.{bits-take, bits-drop}
 use Rattle.bits.proofs.Distances.{differ-le}
-use Rattle.packed.proofs.Wordings.{bits-words}
 use Rattle.packed.specs.Packed.{bits512, padded, wordsOf}
 use Rattle.symbols.specs.Grids.{pointsFrom}
 use Rattle.symbols.specs.Schemes.{sumOf, labelled}
-use Rattle.symbols.proofs.Schemes.{sum-least}
 use Rattle.symbols.proofs.Mapping.{length-symbols}
 use Rattle.symbols.proofs.Labelled.{bits-labelled}
 use Rattle.payload.specs.Scrambler.{start, registerAfter}
@@ -32,21 +29,10 @@ use Rattle.payload_b.specs.StreamB.{blocksAfter, waitAfter, fresh, Kept,
 use Rattle.payload_b.specs.StreamedB.{symbolAt, bitsSeen, bitsComplete, wireAfter, stateAfter}
 use Rattle.payload_b.specs.declared.stream.State.{State}
 use Rattle.payload_b.specs.declared.stream.Course.the-variants.{Open}
-use Rattle.payload_b.proofs.Blocks.{block-bits-few}
 use Rattle.payload_b.proofs.Blockwise.{blocks-in, length-coded}
-use Rattle.payload_b.proofs.StatesB.{after-none, after-more, wait-few, bits-after, bits-most, now-long}
+use Rattle.payload_b.proofs.StatesB.{after-none, after-more, before-all, wait-low, bits-after, bits-most, words-front, words-behind, now-long}
 use Rattle.payload_b.proofs.Joining.{fits-joined, total-joined, worst-joined}
 use Rattle.payload_b.proofs.StreamPoints.{seen-more}
-
--- n blocks of b bits need so many OFDM symbols of s: fewer do not complete all
-not-all : (b n s k : ℕ) → 0 < s → k < (b * n + (s - 1)) / s → min (s * k / b) n < n
-not-all b n s k some l = by (decLe n (s * k / b))
-  where
-    by : Dec (n ≤ s * k / b) → min (s * k / b) n < n
-    by (yes h) =
-        let up : s * suc k ≤ s * ((b * n + (s - 1)) / s) = mul-le-mul-left s l in
-        absurd (omega (arith, up, mul-suc s k, div-add-mod (b * n + (s - 1)) s, mul-le-mul-left b h, div-add-mod (s * k) b))
-    by (no h) = omega arith
 
 -- open states that are the same in each part
 same-state : (scheme : List ℕ) (mode n k : ℕ) {b b' : List ℕ} {c c' r r' m m' w w' : ℕ} → b ≡ b' → c ≡ c' → r ≡ r' → m ≡ m' → w ≡ w'
@@ -54,16 +40,6 @@ same-state : (scheme : List ℕ) (mode n k : ℕ) {b b' : List ℕ} {c c' r r' m
     (record { scheme = scheme; block = b; count = c; mode = mode; size = n; seen = k; register = r; mended = m; worst = w; course = Open })
     (record { scheme = scheme; block = b'; count = c'; mode = mode; size = n; seen = k; register = r'; mended = m'; worst = w'; course = Open })
 same-state scheme mode n k eb ec er em ew = rw (eb, ec, er, em, ew) refl
-
--- a word of up to 512 bits, in eight machine words
-module _ (word : List ℕ) (few : length word ≤ 512) (each : Bits word) where
-  block-is : bits512 (wordsOf 8 (padded word)) ≡ padded word
-  block-is =
-      bits-words (padded word) (length-append word (replicate (512 - length word) 0) ∙ omega (arith, length-replicate {A = ℕ} (512 - length word) 0))
-      (bits-append word _ each (bits-zeros (512 - length word)))
-
-  held-is : (count : ℕ) → length word ≡ count → take count (bits512 (wordsOf 8 (padded word))) ≡ word
-  held-is count long = ap (take count) block-is ∙ take-at word (replicate (512 - length word) 0) count long
 
 module _ {mode n : ℕ} {scheme : List ℕ} (sendable : Sendable mode n scheme) (is qs : List ℤ) (k : ℕ) where
   abbrev done : ℕ
@@ -87,18 +63,11 @@ module _ {mode n : ℕ} {scheme : List ℕ} (sendable : Sendable mode n scheme) 
       length-take-le (waitAfter mode n scheme k) (drop (blockBits mode * done) seen)
       (omega (arith, length-drop (blockBits mode * done) seen, seen-long, bits-most sendable k))
 
-  waiting-few : length waiting ≤ 512
-  waiting-few = omega (arith, waiting-long, wait-few sendable k, block-bits-few mode)
-
   waiting-bits : Bits waiting
   waiting-bits = bits-take (waitAfter mode n scheme k) (drop (blockBits mode * done) seen) (bits-drop (blockBits mode * done) seen (bits-labelled _ _))
 
   pub waits-is : take (waitAfter mode n scheme k) (bits512 (wordsOf 8 (padded waiting))) ≡ waiting
-  waits-is = held-is waiting waiting-few waiting-bits (waitAfter mode n scheme k) waiting-long
-
-  -- before the last OFDM symbol some blocks are not complete
-  pub before-all : k < symbolsFor mode n scheme → done < blocksIn mode n
-  before-all l = not-all (blockBits mode) (blocksIn mode n) (sumOf scheme) k (omega (arith, sum-least (sendable .entries))) l
+  waits-is = words-front waiting (waitAfter mode n scheme k) waiting-long (wait-low sendable k) waiting-bits
 
   -- ---- the state is sound
 
@@ -142,7 +111,7 @@ module _ {mode n : ℕ} {scheme : List ℕ} (sendable : Sendable mode n scheme) 
       within = l;
       waits = refl;
       carried = refl;
-      behind = rw waits-is (block-is waiting waiting-few waiting-bits);
+      behind = words-behind waiting (waitAfter mode n scheme k) waiting-long (wait-low sendable k) waiting-bits;
       near = counts .0;
       least = counts .1;
       most = counts .2;
@@ -159,7 +128,7 @@ module _ {mode n : ℕ} {scheme : List ℕ} (sendable : Sendable mode n scheme) 
         let one = labelled scheme (pointsFrom (symbolAt k is) (symbolAt k qs) 1 210) in
         let all : waiting ≡ drop (b * done) seen
         = take-all (waitAfter mode n scheme k) (drop (b * done) seen)
-        (omega (arith, length-drop (b * done) seen, seen-long, bits-after sendable k (before-all l))) in
+        (omega (arith, length-drop (b * done) seen, seen-long, bits-after sendable k (before-all sendable k l))) in
         ap (λ (w : List ℕ). w ++ one) (waits-is ∙ all)
         ∙ sym (ap (drop (b * done)) (seen-more (sendable .entries) is qs k)
         ∙ drop-append-le (b * done) seen one (omega (arith, seen-long, bits-most sendable k)))

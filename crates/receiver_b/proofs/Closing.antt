@@ -3,7 +3,7 @@
 use mathlib.Core.Path.{_≡_, refl, sym, ap, _∙_}
 use mathlib.Core.Bool.{true, false}
 use mathlib.Core.List.{List, [], _++_, append-nil, append-assoc}
-use Prim.Native.Nat.{ℕ, zero, suc, _+_, _-_, _*_, _≤_, _<_, max}
+use Prim.Native.Nat.{ℕ, _+_, _-_, _*_, _≤_, _<_, max}
 use native.Mathlib.Nat.{mul-add, sub-self}
 use native.Mathlib.Omega.{arith}
 use borrow.Rule.Slice.PartMut.{putMid, same-len-mid, mid-len, take-put, drop-put}
@@ -12,7 +12,7 @@ use lib.Seq.{take-add, drop-drop, drop-append-le, length-take-le}
 use Rattle.bits.proofs.Copies.{part-written}
 use Rattle.packed.proofs.Paddings.{drop-take}
 use Rattle.payload_b.specs.CodedB.{blockBytes, blockBits}
-use Rattle.payload_b.specs.PromiseB.{mendsB}
+use Rattle.payload_b.proofs.Blocks.{mends-few}
 use Rattle.receiver_b.specs.Steps.{NoneNear, Writes, Counts, Done, Going, Moves, Full, Closes, Shortens}
 use Rattle.receiver_b.specs.declared.stream.Tally.{Tally}
 use Rattle.receiver_b.proofs.Progress.{done-more, stuck-kept, stuck-next}
@@ -96,13 +96,6 @@ module _ (mode blocks : ℕ) (area held : List ℕ) (s : Tally) (good : s .good 
           };
     }
 
--- no more bits can be mended in a block than it has bytes
-pub mends-few : (mode : ℕ) → mode ≤ 2 → mendsB mode ≤ blockBytes mode
-mends-few zero h = omega arith
-mends-few (suc zero) h = omega arith
-mends-few (suc (suc zero)) h = omega arith
-mends-few (suc (suc (suc mode))) h = absurd (omega arith)
-
 -- ---- a full block is finished
 
 module _ {mode : ℕ} {area block : List ℕ} {s : Tally} (h : Full mode area s) (long : length (take (blockBits mode) block) ≡ blockBits mode) where
@@ -121,7 +114,7 @@ module _ {mode : ℕ} {area block : List ℕ} {s : Tally} (h : Full mode area s)
       → Closes mode area block s (putMid at (end - at) area out) (closed (blockBits mode) 1 after (s .mended + count) (max (s .worst) count) s)
   closes-mended at end ea ee {count} {after} {out} w = record {
     shorter = refl;
-    counts = λ blocks few. record { few = omega arith; mended = omega (arith, h .mended, w .near, mends-few mode (h .known)) };
+    counts = λ blocks few. record { few = omega arith; mended = omega (arith, h .mended, w .near, mends-few mode) };
     moves =
         λ blocks few held e.
         moves-closed mode blocks area held s (h .good) few (blockBits mode) (h .full) 1 at end ea (omega arith) (omega (arith, h .fits)) out

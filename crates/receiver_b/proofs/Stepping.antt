@@ -2,10 +2,10 @@
 -- Assumes nothing.
 use mathlib.Core.Path.{_≡_, refl, sym, ap, ap₂, subst, _∙_}
 use mathlib.Core.Logic.{inl, inr}
-use mathlib.Core.Bool.{Bool, true, false, cond}
+use mathlib.Core.Bool.{Bool, true, false}
 use mathlib.Core.List.{List, [], _++_, append-nil}
-use Prim.Native.Nat.{ℕ, suc, _+_, _-_, _*_, _/_, _%_, _≤_, _<_, min, max}
-use native.Mathlib.Nat.{div-add-mod, mod-lt, mul-add, mul-suc, mul-le-mul-left, mul-le-mul-right, le-trans}
+use Prim.Native.Nat.{ℕ, suc, _+_, _-_, _*_, _/_, _≤_, _<_, min, max}
+use native.Mathlib.Nat.{mul-add, mul-suc, mul-le-mul-left, mul-le-mul-right, le-trans, le-div-iff-mul-le, div-eq-of-lt-le}
 use native.Mathlib.Numerals.{add-one}
 use native.Mathlib.Decide.{decLe}
 use native.Mathlib.Omega.{arith}
@@ -26,17 +26,15 @@ use Rattle.symbols.proofs.Readings.{received-one}
 use Rattle.points.specs.Lent.{ourQuadrants}
 use Rattle.payload.specs.Scrambler.{registerAfter}
 use Rattle.payload.specs.Wire.{total, worst, Fits}
-use Rattle.payload.proofs.Wires.{one-more}
-use Rattle.payload_b.specs.CodedB.{blockBytes, blockBits, codeB, blocksIn, symbolsFor}
+use Rattle.payload_b.specs.CodedB.{blockBytes, blockBits, blocksIn, symbolsFor}
 use Rattle.payload_b.specs.StreamB.{doneIn, doneNext, stopped, Kept, atHand, blocksNow, bitsNow, wireNow, waitNext, onward, GoesOn, Halts}
 use Rattle.payload_b.specs.declared.stream.State.{State}
 use Rattle.payload_b.specs.declared.stream.Stage.{Stage}
 use Rattle.payload_b.specs.declared.stream.Course.the-variants.{Open}
 use Rattle.payload_b.proofs.Plans.{whole-blocks}
-use Rattle.payload_b.proofs.Blocks.{block-bits-pos, block-bits-few, coded}
+use Rattle.payload_b.proofs.Blocks.{block-bits-pos, block-bits-few, mends-few, coded}
 use Rattle.payload_b.proofs.Blockwise.{blocks-in}
-use Rattle.payload_b.proofs.StatesB.{after-few, wait-few, wait-none, bits-after, after-next, hand-long, now-few}
-use Rattle.payload_b.proofs.StreamStates.{before-all}
+use Rattle.payload_b.proofs.StatesB.{after-few, before-all, wait-few, wait-none, bits-after, after-next, hand-long, now-few}
 use Rattle.receiver_b.specs.Steps.{Sane, Going, Stuck, Standing, TakesIn, Ready, Clean, Taking}
 use Rattle.receiver_b.specs.declared.stream.Stream.{Stream}
 use Rattle.receiver_b.specs.declared.stream.Tally.{Tally}
@@ -44,27 +42,6 @@ use Rattle.receiver_b.proofs.Faults as faults
 use Rattle.receiver_b.proofs.Receiving.{none-stray}
 use Rattle.receiver_b.proofs.Progress.{hopeless-wider}
 use Rattle.receiver_b.proofs.Taking.{base-taken, rest-same}
-use Rattle.receiver_b.proofs.Closing.{mends-few}
-
--- ---- numbers
-
--- x bits hold no fewer than m blocks of b, and no more than them where less than a block is left
-holds : (b x m : ℕ) → 0 < b → b * m ≤ x → m ≤ x / b
-holds b x m some h = by (decLe m (x / b))
-  where
-    by : Dec (m ≤ x / b) → m ≤ x / b
-    by (yes l) = l
-    by (no l) = absurd (omega (arith, one-more b (x / b) m (omega arith), div-add-mod x b, mod-lt x some))
-
-holds-just : (b x m r : ℕ) → 0 < b → x ≡ b * m + r → r < b → x / b ≡ m
-holds-just b x m r some e few = by (decLe (x / b) m)
-  where
-    low : m ≤ x / b
-    low = holds b x m some (omega arith)
-
-    by : Dec (x / b ≤ m) → x / b ≡ m
-    by (yes l) = omega (arith, low)
-    by (no l) = absurd (omega (arith, one-more b m (x / b) (omega arith), div-add-mod x b))
 
 -- ---- the step
 
@@ -91,7 +68,7 @@ carried-on s block t = record {
 pub kept-sane : (s : State) → Kept s → Sane (s .mode) (blocksIn (s .mode) (s .size)) (bits512 (s .block)) (tallyOf s)
 kept-sane s k =
     let p = k .sendable in
-    let most = mul-le-mul-right (doneIn s) (le-trans (k .near) (mends-few (s .mode) (p .known))) in
+    let most = mul-le-mul-right (doneIn s) (le-trans (k .near) (mends-few (s .mode))) in
     record {
       partial = rw (k .waits) (wait-few p (s .seen));
       ended = λ all. k .waits ∙ wait-none p (s .seen) all;
@@ -111,7 +88,7 @@ module _ (s : State) (kept : Kept s) (more : s .seen < symbolsFor (s .mode) (s .
 
   -- some blocks are not done yet
   some-left : doneIn s < blocks
-  some-left = before-all (kept .sendable) is qs (s .seen) more
+  some-left = before-all (kept .sendable) (s .seen) more
 
   -- the blocks complete now, by the bits at hand
   blocks-hold : blocksNow s ≡ min ((s .count + sumOf (s .scheme)) / size) (blocks - doneIn s)
@@ -143,14 +120,14 @@ module _ (s : State) (kept : Kept s) (more : s .seen < symbolsFor (s .mode) (s .
         where
           by : Dec (blocks ≤ t .done) → (g .m ≡ blocksNow s) × (t .count ≡ waitNext s)
           by (yes all) =
-              let enough = holds size (s .count + sumOf (s .scheme)) (g .m) (block-bits-pos (s .mode)) (omega (arith, parted)) in
+              let enough : g .m ≤ (s .count + sumOf (s .scheme)) / size = le-div-iff-mul-le (block-bits-pos (s .mode)) .1 (omega (arith, parted)) in
               let m : g .m ≡ blocksNow s = omega (arith, blocks-hold, enough, g .since, on .0 .counts .few) in
               let none = wait-none (kept .sendable) (suc (s .seen)) (omega (arith, m, now-few s kept is qs, g .since)) in
               (m, on .0 .ended all ∙ sym none)
           by (no l) =
               let none = ap length (g .unfilled (omega arith)) in
-              let just = holds-just size (s .count + sumOf (s .scheme)) (g .m) (t .count) (block-bits-pos (s .mode)) (omega (arith, parted, rest-long, none))
-              (on .0 .partial) in
+              let just : (s .count + sumOf (s .scheme)) / size ≡ g .m
+              = div-eq-of-lt-le size (omega (arith, parted)) (omega (arith, parted, rest-long, none, on .0 .partial)) in
               let m : g .m ≡ blocksNow s = omega (arith, blocks-hold, just, g .since) in
               let here = bits-after (kept .sendable) (s .seen) some-left in
               let there = bits-after (kept .sendable) (suc (s .seen)) (omega (arith, m, now-few s kept is qs, g .since)) in
@@ -215,7 +192,8 @@ module _ (s : State) (kept : Kept s) (more : s .seen < symbolsFor (s .mode) (s .
     halts k =
         let c = coded (s .mode) (kept .sendable .known) (k .coded) in
         let y = blockBytes (s .mode) in
-        let enough = holds size (s .count + sumOf (s .scheme)) (suc (k .m)) (block-bits-pos (s .mode)) (omega (arith, k .whole, hand-long s kept is qs)) in
+        let enough : suc (k .m) ≤ (s .count + sumOf (s .scheme)) / size
+        = le-div-iff-mul-le (block-bits-pos (s .mode)) .1 (omega (arith, k .whole, hand-long s kept is qs)) in
         let one : k .m < blocksNow s = omega (arith, blocks-hold, enough, k .since, k .next) in
         let wide = hopeless-wider (k .hopeless) (rw (c .whole) (k .whole)) [] (blocksNow s) one in
         let end : y * t .done ≤ s .size = omega (arith, mul-le-mul-left y (on .0 .counts .few), whole-blocks (s .mode) (s .size) (kept .sendable .whole)) in
@@ -265,7 +243,8 @@ module _ {s : State} {stage : Stage} {is qs : List ℤ} {area : List ℕ} (h : C
       })
 
   -- no point is stray, so that its bits are read
-  bits-read : {quadrants : List ℕ} → quadrants ≡ ourQuadrants → readBy quadrants (s .scheme) (pointsFrom is qs 1 210) ≡ labelled (s .scheme) (pointsFrom is qs 1 210)
+  bits-read : {quadrants : List ℕ} → quadrants ≡ ourQuadrants
+      → readBy quadrants (s .scheme) (pointsFrom is qs 1 210) ≡ labelled (s .scheme) (pointsFrom is qs 1 210)
   unfolding repeated
   bits-read ours =
       let good = kept-here .sendable .entries in

@@ -95,7 +95,7 @@ fn read_levels(room: &mut [i16]) -> Listed
 }
 
 // The count of a list, of which there is room for most elements.
-fn read_count(most: usize) -> Listed
+pub(crate) fn read_count(most: usize) -> Listed
     ensures { λ r. ⌜ r .count ≤ most ⌝ }
 {
     let mut bytes = [0u8; 4];
@@ -163,7 +163,7 @@ fn level(n: usize) -> i16
 }
 
 // The number that at most eight bytes stand for, the lowest first.
-fn value(bytes: &[u8]) -> usize
+pub(crate) fn value(bytes: &[u8]) -> usize
     requires { ⌜ length (now bytes) ≤ 8 ⌝ }
     ensures { λ r. ⌜ (r ≡ value (now (bytes .entry))) × (r < 256 ^ length (now (bytes .entry))) ⌝ }
 {

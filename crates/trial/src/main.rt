@@ -14,8 +14,14 @@
 //   5 send B       mode (1 byte), frame, scheme, I, Q                                         I, Q
 //   6 receive B    mode (1 byte), frame length (8 bytes), scheme, I, Q, area
 //                                                mended, worst                                area
+//   9 stream B     mode (1 byte), frame length (8 bytes), scheme, area, count of calls (4 bytes), and for each call I and Q
+//   16 step B      state, I, Q, area             mended, worst                                state, area
 //
-// Another job byte, a list too long for its room and a request that is cut end the program after the responses so far.
+// Job 9 opens a stream and makes its calls, one OFDM symbol each, all with one area, and is answered as it is read: number and place of the
+// opening, then of each call number, place, mended, worst and the area after it. Job 16 makes one step from any state, a list of 326 bytes
+// (stream.rt).
+//
+// Another job byte, a state of another length, a list too long for its room and a request that is cut end the program after the responses so far.
 ghost use mathlib.Core.Path.{_≡_};
 ghost use lib.ListN.{length};
 use input::Byte;
@@ -25,6 +31,7 @@ mod jobs_a;
 mod jobs_b;
 mod output;
 mod parts;
+mod stream;
 mod word;
 
 // The most elements of a list of bytes.
@@ -58,6 +65,8 @@ fn serve(first: &mut [u8], second: &mut [u8], i: &mut [i16], q: &mut [i16]) -> b
         4 => jobs_a::serve_receive(i, q, first),
         5 => jobs_b::serve_send(first, second, i, q),
         6 => jobs_b::serve_receive(second, i, q, first),
+        9 => stream::serve_stream(second, i, q, first),
+        16 => stream::serve_step(i, q, first),
         _ => false,
     }
 }

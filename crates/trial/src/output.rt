@@ -1,4 +1,5 @@
-// Writing to standard output: how a response begins, a count, places, a list, the response to a send job. False says that it could not be written.
+// Writing to standard output: how a response begins, a count, a register, a byte, places, a list, the response to a send job. False says that it could not be
+// written.
 ghost use mathlib.Core.Path.{_≡_};
 ghost use mathlib.Core.List.{_∷_};
 ghost use Prim.Native.Nat.{_*_, _≤_};
@@ -25,6 +26,18 @@ pub(crate) fn write_count(n: usize) -> bool {
     io::write_all(STDOUT_FILENO, &bytes)
 }
 
+// A register, in two bytes.
+pub(crate) fn write_register(n: u16) -> bool {
+    let mut bytes = [0u8; 2];
+    put(n as usize, &mut bytes);
+    io::write_all(STDOUT_FILENO, &bytes)
+}
+
+pub(crate) fn write_byte(n: u8) -> bool {
+    let bytes = [n; 1];
+    io::write_all(STDOUT_FILENO, &bytes)
+}
+
 // The places that an answer lists, in two bytes each.
 pub(crate) fn write_places(places: &[u16; PLACES]) -> bool {
     let mut bytes = [0u8; 2 * PLACES];
@@ -34,7 +47,12 @@ pub(crate) fn write_places(places: &[u16; PLACES]) -> bool {
 
 // A list of bytes, whole.
 pub(crate) fn write_list(elements: &[u8]) -> bool {
-    write_length(elements.len()) && io::write_all(STDOUT_FILENO, elements)
+    write_length(elements.len()) && write_bytes(elements)
+}
+
+// Bytes, with no count.
+pub(crate) fn write_bytes(elements: &[u8]) -> bool {
+    io::write_all(STDOUT_FILENO, elements)
 }
 
 // A list of levels, whole.
@@ -49,7 +67,7 @@ pub(crate) fn write_sent(told: Told, i: &[i16], q: &[i16]) -> bool {
 }
 
 // The count of a list, in four bytes.
-fn write_length(n: usize) -> bool {
+pub(crate) fn write_length(n: usize) -> bool {
     let mut bytes = [0u8; 4];
     put(n, &mut bytes);
     io::write_all(STDOUT_FILENO, &bytes)

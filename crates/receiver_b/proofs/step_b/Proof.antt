@@ -1,6 +1,6 @@
 -- `receiver_b::step_b` meets its contract: an earlier refusal goes first, and then whether an opening and steps can give the state.
 -- Assumes nothing.
-use mathlib.Core.Path.{_≡_, refl, sym, ap, subst, _∙_}
+use mathlib.Core.Path.{refl, sym, ap, subst, _∙_}
 use mathlib.Core.List.{List}
 use Prim.Native.Nat.{ℕ}
 use Rattle.answers.specs.Answers.{ofReceivedB}
@@ -9,7 +9,6 @@ use Rattle.answers.proofs.Telling.{because-is}
 use Rattle.payload_b.specs.StreamB.{stepChecked, Steps, Judges}
 use Rattle.payload_b.specs.declared.stream.State.{State}
 use Rattle.payload_b.specs.declared.stream.Course.{Course}
-use Rattle.payload_b.specs.declared.stream.Found.{Found}
 use Rattle.payload_b.proofs.StatesB.{sound-kept}
 use borrow.Author.Needs.{needs}
 use Rattle.receiver_b.proofs.step_b.Statement.{statement}

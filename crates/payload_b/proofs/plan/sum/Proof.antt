@@ -4,7 +4,7 @@ use mathlib.Core.Path.{_≡_, sym, ap, _∙_}
 use Prim.Native.Nat.{ℕ, _-_, _*_, _≤_}
 use native.Mathlib.Omega.{arith}
 use native.Mathlib.Numerals.{add-one}
-use lib.ListN.{length, take}
+use lib.ListN.{take}
 use Rattle.symbols.specs.Schemes.{sumOf}
 use Rattle.symbols.proofs.Schemes.{entry-in, sum-nil, sum-snoc, sum-whole}
 use borrow.Author.Needs.{needs}

@@ -3,7 +3,6 @@
 use mathlib.Core.Path.{_≡_, sym, ap, ap₂, subst, _∙_}
 use mathlib.Core.Logic.{⊎-elim}
 use mathlib.Core.Bool.{true≢false}
-use mathlib.Core.List.{List}
 use Prim.Native.Nat.{ℕ, min, _*_, _/_, _%_, _≤_, _<_}
 use native.Mathlib.Omega.{arith}
 use native.Mathlib.Nat.{mul-le-mul}
@@ -12,7 +11,7 @@ use lib.Dec.{eqb}
 use lib.ListN.{take}
 use Rattle.answers.specs.Checks.{passes}
 use Rattle.bits.specs.Words.{differ}
-use Rattle.bits.proofs.Distances.{differ-self, differ-zero}
+use Rattle.bits.proofs.Distances.{differ-zero}
 use Rattle.packed.specs.Packed.{bits512, padded}
 use Rattle.payload.specs.Scrambler.{start, registerAfter}
 use Rattle.payload_b.specs.CodedB.{blockBytes, blocksIn, symbolsFor}
@@ -23,8 +22,8 @@ use Rattle.payload_b.specs.declared.plan.Verdict.{Verdict}
 use Rattle.payload_b.specs.declared.plan.Verdict.the-variants.{Passes}
 use Rattle.payload_b.specs.declared.stream.State.{State}
 use Rattle.payload_b.proofs.Plans.{plan-passes}
-use Rattle.payload_b.proofs.Blocks.{block-bytes-few, block-bits-pos}
-use Rattle.payload_b.proofs.StatesB.{kept-sound, not-sound, wait-some, wait-none, seen-few, done-few, mends-most}
+use Rattle.payload_b.proofs.Blocks.{block-bytes-few, block-bits-pos, mends-few}
+use Rattle.payload_b.proofs.StatesB.{none-behind, kept-sound, not-sound, wait-some, wait-none, seen-few, done-few}
 use borrow.Author.Needs.{needs}
 use Rattle.payload_b.proofs.stream.judged.Statement.{statement}
 use Rattle.payload_b.proofs.stream.judged.Tie as tie
@@ -164,9 +163,8 @@ returns-4 c =
 returns-5 : tie.Need-returns-5
 returns-5 c =
     let s = counted (third (fourth (c .before .before .before .before))) in
-    let kept = padded (take (s .count) (bits512 (s .block))) in
     let other = eqb-false _ 0 (sym (ends-is (c .before)) ∙ not-true _ (c .if5 .taken)) in
-    not-sound s (λ k. other (ap (λ (v : List ℕ). differ v kept) (k .behind) ∙ differ-self kept))
+    not-sound s (λ k. other (none-behind s k))
 
 returns-6 : tie.Need-returns-6
 returns-6 c =
@@ -182,7 +180,8 @@ mul-if8 : tie.Need-mul-if8
 mul-if8 c =
     let e = c .before in
     let l = third (fourth (fifth (sixth e))) in
-    let worst : counted l .worst ≤ 8 = omega (arith, e .if6 .left, e .before .mends .ensures, mends-most (counted l .mode)) in
+    let m = counted l .mode in
+    let worst : counted l .worst ≤ 59 = omega (arith, e .if6 .left, e .before .mends .ensures, mends-few m, block-bytes-few m) in
     omega (arith, mul-le-mul worst (done-most l))
 
 returns-8 : tie.Need-returns-8

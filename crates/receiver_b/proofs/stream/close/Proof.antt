@@ -11,11 +11,11 @@ use lib.Seq.{length-take-le}
 use Rattle.packed.specs.Packed.{bits512}
 use Rattle.packed.proofs.Walks.{length-512}
 use Rattle.payload_b.specs.CodedB.{blockBytes, blockBits}
-use Rattle.payload_b.proofs.Blocks.{block-bytes-pos, block-bits-few}
+use Rattle.payload_b.proofs.Blocks.{block-bytes-pos, block-bits-few, mends-few}
 use Rattle.receiver_b.specs.Steps.{Finishes}
 use Rattle.receiver_b.specs.declared.block.Finished.{Finished}
 use Rattle.receiver_b.specs.declared.block.Finished.the-variants.{Mended}
-use Rattle.receiver_b.proofs.Closing.{mends-few, closes-mended, closes-lost}
+use Rattle.receiver_b.proofs.Closing.{closes-mended, closes-lost}
 use borrow.Author.Needs.{needs}
 use Rattle.receiver_b.proofs.stream.close.Statement.{statement}
 use Rattle.receiver_b.proofs.stream.close.Tie as tie
@@ -78,7 +78,7 @@ total : (c : tie.After-known-told)
     a .from .mended + c .before .count .given .0 .0 ≤ length (a .area .now)
 total c =
     let s = first (step (finished c)) in
-    omega (arith, s .pre .fits, s .pre .mended, mended c .near, mends-few (s .args .mode) (s .pre .known))
+    omega (arith, s .pre .fits, s .pre .mended, mended c .near, mends-few (s .args .mode))
 
 returns-2 : tie.Need-returns-2
 returns-2 c =
@@ -109,7 +109,8 @@ close-spec =
     returns
     (λ c κs. search needs)
     (λ c. search needs)
-    (λ c. let s = first (step (finished (c .before .before .before))) in omega (arith, s .pre .fits, mul-le-mul-right (s .args .from .done) (block-bytes-pos (s .args .mode))))
+    (λ c. let s = first (step (finished (c .before .before .before))) in
+    omega (arith, s .pre .fits, mul-le-mul-right (s .args .from .done) (block-bytes-pos (s .args .mode))))
     (λ c. omega (arith, total (c .before .before .before .before)))
     (λ c. search needs)
     returns-2)
