@@ -3,6 +3,7 @@
 
 use crate::grids::{MOST, SOME};
 use crate::rows::Row;
+use crate::streams::Streamed;
 use second::payload_a;
 
 /// Nanoseconds from one OFDM symbol on the cable to the next.
@@ -29,12 +30,12 @@ impl Timed {
         format!("{} {ours:.0} | {second:.0} | {} |", self.line(), grouped(thousands * 1e3))
     }
 
-    fn quotient(&self) -> f64 {
+    pub fn quotient(&self) -> f64 {
         self.ours / self.second
     }
 
     /// Ours, nanoseconds an OFDM symbol.
-    fn a_symbol(&self) -> f64 {
+    pub fn a_symbol(&self) -> f64 {
         self.ours / self.row.symbols as f64
     }
 }
@@ -45,14 +46,25 @@ pub fn cable() -> String {
 }
 
 /// What is asked, a line each; where no row tells of it, none.
-pub fn print(all: &[Timed]) {
-    let lines = [beside_second(all), beside_the_cable(all), among_many(all)];
+pub fn print(all: &[Timed], streams: &[Streamed]) {
+    let lines = [beside_second(all, streams), beside_the_cable(all), among_many(all), by_steps(streams), a_step(streams)];
     lines.into_iter().flatten().for_each(|line| println!("- {line}"));
 }
 
-fn beside_second(all: &[Timed]) -> Option<String> {
-    let (quotient, row) = largest(all.iter().map(|timed| (timed.quotient(), &timed.row)))?;
+fn beside_second(all: &[Timed], streams: &[Streamed]) -> Option<String> {
+    let timed = all.iter().chain(streams.iter().map(|streamed| &streamed.timed));
+    let (quotient, row) = largest(timed.map(|timed| (timed.quotient(), &timed.row)))?;
     Some(format!("ours / second is at most {quotient:.2}: {}", row.whole()))
+}
+
+fn by_steps(streams: &[Streamed]) -> Option<String> {
+    let (quotient, row) = largest(streams.iter().map(|streamed| (streamed.beside_whole(), &streamed.timed.row)))?;
+    Some(format!("ours by steps / ours whole is at most {quotient:.3}: {}", row.whole()))
+}
+
+fn a_step(streams: &[Streamed]) -> Option<String> {
+    let (time, row) = largest(streams.iter().map(|streamed| (streamed.slowest, &streamed.timed.row)))?;
+    Some(format!("a single step takes at most {} ns: {}", grouped(time), row.whole()))
 }
 
 fn beside_the_cable(all: &[Timed]) -> Option<String> {

@@ -18,22 +18,41 @@ type Scheme = (&'static str, fn(usize) -> u8);
 
 const SCHEMES: [Scheme; 3] = [("QPSK", |_| 2), ("mixed", |s| 2 + (s % 9) as u8), ("1024QAM", |_| 10)];
 
-const SEND_B: Calls = (ours::send_b, theirs::send_b);
-const RECEIVE_B: Calls = (ours::receive_b, theirs::receive_b);
+/// A job's name, and its calls.
+type Job = (&'static str, Calls);
 
-/// All rows of Payload B.
+const SEND: Job = ("send", (ours::send_b, theirs::send_b));
+const RECEIVE: Job = ("receive", (ours::receive_b, theirs::receive_b));
+const STREAM: Job = ("receive by steps", (ours::stream_b, theirs::stream_b));
+
+/// All rows of Payload B whole: receiving, clean and, if coded, with t hits in each block, and sending.
 pub fn all() -> impl Iterator<Item = Row> {
-    [2, 1, 0].into_iter().flat_map(|mode| SCHEMES.into_iter().flat_map(move |scheme| of_scheme(mode, scheme)))
+    schemes().flat_map(|(mode, scheme)| {
+        received(mode, scheme, RECEIVE).chain(frames(mode, scheme).map(Longest::sent))
+    })
 }
 
-/// Receiving, clean and, if coded, with t hits in each block, and sending, each over the three numbers of OFDM symbols.
-/// Where one OFDM symbol holds no block, two are the least.
-fn of_scheme(mode: u8, scheme: Scheme) -> impl Iterator<Item = Row> {
+/// All rows of Payload B by steps: the same frames as received whole.
+pub fn streams() -> impl Iterator<Item = Row> {
+    schemes().flat_map(|(mode, scheme)| received(mode, scheme, STREAM))
+}
+
+/// The modes, each with the schemes.
+fn schemes() -> impl Iterator<Item = (u8, Scheme)> {
+    [2, 1, 0].into_iter().flat_map(|mode| SCHEMES.into_iter().map(move |scheme| (mode, scheme)))
+}
+
+/// The longest frames of the three numbers of OFDM symbols. Where one OFDM symbol holds no block, two are the least.
+fn frames(mode: u8, scheme: Scheme) -> impl Iterator<Item = Longest> {
     let longest = move |symbols: usize| Longest { mode, scheme, symbols };
     let least = if longest(1).blocks() > 0 { 1 } else { 2 };
-    let frames = move || [least, SOME, MOST].into_iter().map(longest);
+    [least, SOME, MOST].into_iter().map(longest)
+}
+
+/// They are received clean and, if coded, with t hits in each block.
+fn received(mode: u8, scheme: Scheme, job: Job) -> impl Iterator<Item = Row> {
     let hits = [0].into_iter().chain(bch::code(mode).map(|code| code.t));
-    hits.flat_map(move |hits| frames().map(move |frame| frame.received(hits))).chain(frames().map(Longest::sent))
+    hits.flat_map(move |hits| frames(mode, scheme).map(move |frame| frame.received(job, hits)))
 }
 
 /// The longest frame that so many OFDM symbols hold.
@@ -65,17 +84,17 @@ impl Longest {
 
     /// Sending it.
     fn sent(self) -> Row {
-        self.row("send", "", SEND_B, 0, |rng| Input { bytes: rng.bytes(self.bytes()), ..self.input() })
+        self.row(SEND, "", 0, |rng| Input { bytes: rng.bytes(self.bytes()), ..self.input() })
     }
 
     /// Receiving it, each block with so many hits: all are mended.
-    fn received(self, hits: usize) -> Row {
+    fn received(self, job: Job, hits: usize) -> Row {
         let hit = if hits > 0 { format!(", {hits} hits in each block") } else { ", clean".to_string() };
-        self.row("receive", &hit, RECEIVE_B, hits, |rng| self.points(rng, hits))
+        self.row(job, &hit, hits, |rng| self.points(rng, hits))
     }
 
     /// Each block has so many hits, mended by the call.
-    fn row(self, job: &str, hit: &str, (ours, theirs): Calls, hits: usize, input: impl Fn(&mut Rng) -> Input) -> Row {
+    fn row(self, (job, (ours, theirs)): Job, hit: &str, hits: usize, input: impl Fn(&mut Rng) -> Input) -> Row {
         let mut rng = Rng::new(5);
         let plural = if self.symbols > 1 { "s" } else { "" };
         let (mended, worst) = ((self.blocks() * hits) as u64, hits as u64);

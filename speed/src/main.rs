@@ -9,6 +9,7 @@ mod grids;
 mod linux;
 mod ours;
 mod rows;
+mod streams;
 mod theirs;
 
 use asked::Timed;
@@ -16,6 +17,7 @@ use rows::{Call, Memory, Row, GROUP, INPUTS};
 use std::hint::black_box;
 use std::process::exit;
 use std::time::Instant;
+use streams::Streamed;
 
 /// Rounds over all inputs of a row.
 const ROUNDS: usize = 60;
@@ -42,8 +44,18 @@ fn main() {
     println!("{COLUMNS} ours, ns a symbol | second, ns a symbol | ours, symbols a second |");
     println!("|---|---|---|---|---|---|---|---|");
     all.extend(table(grids::all().filter(named), Timed::line_of_symbols));
+    println!("\n{}", streams::COLUMNS);
+    let streams: Vec<Streamed> = grids::streams().filter(named).map(streamed).collect();
     println!();
-    asked::print(&all);
+    asked::print(&all, &streams);
+}
+
+/// A row of streams compared first and then timed, and its line of the table.
+fn streamed(row: Row) -> Streamed {
+    compare(&row);
+    let streamed = Streamed::of(row);
+    println!("{}", streamed.line());
+    streamed
 }
 
 /// Each row compared first and then timed, and its line of the table.

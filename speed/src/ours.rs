@@ -2,6 +2,7 @@
 //! a pointer alone.
 
 use crate::rows::{Answer, Input, Memory};
+use second::grid::CARRIERS;
 
 /// What encode, decode and send answer.
 #[repr(C)]
@@ -76,13 +77,27 @@ extern "C" {
         room: usize,
     ) -> ReceivedTold;
     fn ortkaveq_symbols_b(mode: u8, size: usize, scheme: *const u8, entries: usize) -> NeededTold;
+    fn ortkaveq_open_b(mode: u8, size: usize, scheme: *const u8, entries: usize, stream: *mut Stream) -> Told;
+    fn ortkaveq_step_b(
+        stream: *mut Stream,
+        i: *const i16,
+        i_length: usize,
+        q: *const i16,
+        q_length: usize,
+        area: *mut u8,
+        room: usize,
+    ) -> ReceivedTold;
 }
+
+/// The bytes of a stream's state.
+#[repr(C, align(8))]
+pub struct Stream([u8; 352]);
 
 /// A list of places before a call: no entry is one.
 const UNWRITTEN: [u16; 16] = [u16::MAX; 16];
 
-// In every call below each pair is a slice of this program, each list of places has 16 entries, and the memory is lent
-// to nobody else.
+// In every call below each pair is a slice of this program, each list of places has 16 entries, a stream 352 bytes, and
+// the memory is lent to nobody else.
 
 pub fn encode(input: &Input, memory: &mut Memory) -> Answer {
     let (word, out) = (&input.bytes, &mut memory.bytes);
@@ -156,6 +171,31 @@ pub fn receive_b(input: &Input, memory: &mut Memory) -> Answer {
             area.as_mut_ptr(),
             area.len(),
         )
+    })
+}
+
+/// Opens a stream and makes a step for each OFDM symbol; the last one's answer.
+pub fn stream_b(input: &Input, memory: &mut Memory) -> Answer {
+    let mut stream = open_b(input);
+    let mut last = Answer::default();
+    for (i, q) in input.i.chunks(CARRIERS).zip(input.q.chunks(CARRIERS)) {
+        last = step_b(&mut stream, i, q, memory);
+    }
+    last
+}
+
+pub fn open_b(input: &Input) -> Stream {
+    let mut stream = Stream([0; 352]);
+    let scheme = &input.scheme;
+    let r = unsafe { ortkaveq_open_b(input.number, input.size, scheme.as_ptr(), scheme.len(), &mut stream) };
+    assert_eq!(r.number, 0, "a frame that is refused");
+    stream
+}
+
+pub fn step_b(stream: &mut Stream, i: &[i16], q: &[i16], memory: &mut Memory) -> Answer {
+    let area = &mut memory.bytes;
+    received(unsafe {
+        ortkaveq_step_b(stream, i.as_ptr(), i.len(), q.as_ptr(), q.len(), area.as_mut_ptr(), area.len())
     })
 }
 

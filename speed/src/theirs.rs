@@ -2,7 +2,7 @@
 
 use crate::rows::{Answer, Input, Memory};
 use second::answer::Counts;
-use second::{answer, bch, payload_a, payload_b};
+use second::{answer, bch, grid, payload_a, payload_b, stream_b};
 
 pub fn encode(input: &Input, memory: &mut Memory) -> Answer {
     told(bch::encode(input.number, &input.bytes, &mut memory.bytes))
@@ -27,6 +27,14 @@ pub fn send_b(input: &Input, memory: &mut Memory) -> Answer {
 pub fn receive_b(input: &Input, memory: &mut Memory) -> Answer {
     let size = input.size as u64;
     told(payload_b::receive(input.number, size, &input.scheme, &input.i, &input.q, &mut memory.bytes))
+}
+
+/// A stream through all OFDM symbols; the last one's answer.
+pub fn stream_b(input: &Input, memory: &mut Memory) -> Answer {
+    let mut stream = stream_b::open(input.number, input.size as u64, &input.scheme);
+    let symbols = input.i.chunks(grid::CARRIERS).zip(input.q.chunks(grid::CARRIERS));
+    let last = symbols.map(|(i, q)| stream.step(i, q, &mut memory.bytes)).last();
+    last.map_or(Answer::default(), told)
 }
 
 pub fn symbols_b(input: &Input, _: &mut Memory) -> Answer {

@@ -270,6 +270,34 @@ static const struct { size_t bytes, bits, t; } blocks[] = {
     {1, 8, 0}, {ORTKAVEQ_B_BYTES1, ORTKAVEQ_N1, ORTKAVEQ_T1}, {ORTKAVEQ_B_BYTES2, ORTKAVEQ_N2, ORTKAVEQ_T2},
 };
 
+/* What stream and area had before a step. */
+static struct list area_before;
+static struct ortkaveq_stream before;
+
+static bool stops(size_t number) { return number == ORTKAVEQ_FILLED || number == ORTKAVEQ_STRAY_POINT || number == ORTKAVEQ_UNCORRECTABLE; }
+
+/*
+ * A step. If it is accepted it writes the frame's bytes of this range, and no others. If a stream that was open is refused for what it received, its frame's
+ * bytes are zero, and it holds the refusal. Any other refusal leaves all as it was.
+ */
+static struct told step(size_t from, size_t to)
+{
+    before = stream.state;
+    memcpy(area_before.bytes, area.bytes, area.length);
+    struct told answer = run(STEP_B, 0, 0);
+    if (answer.number == 0)
+        memcpy(area_before.bytes + from, frame.bytes + from, to - from), before.seen++;
+    else if (before.number == 0 && stops(answer.number))
+        memset(area_before.bytes, 0, before.size), before.number = answer.number, before.place = answer.place;
+    if (!same(&area, &area_before, area.length))
+        FAIL("an area as it was, but for what a step that is answered with %zu writes", answer.number);
+    bool kept = memcmp(&stream.state, &before, sizeof before) == 0;
+    bool onward = stream.state.seen == before.seen && stream.state.number == 0 && stream.state.mended == answer.count && stream.state.worst == answer.worst;
+    if (answer.number == 0 ? !onward : !kept)
+        FAIL("a stream as a step that is answered with %zu leaves it", answer.number);
+    return answer;
+}
+
 /* A scheme of so many bits for every point; of 0, from 2 to 10 by turns. Answers their sum. */
 static size_t set_scheme(size_t bits)
 {
@@ -313,10 +341,10 @@ static void hits_b(size_t mode)
     }
 }
 
-/* The same refusal by all three calls. */
+/* The same refusal by all four calls, and by a step of the stream that holds it. */
 #define REFUSE_B(number, place, mode, size) \
     (REFUSE(number, place, run(SYMBOLS_B, mode, size)), REFUSE(number, place, with(&frame, size, SEND_B, mode, 0)), \
-     REFUSE(number, place, run(RECEIVE_B, mode, size)))
+     REFUSE(number, place, run(RECEIVE_B, mode, size)), REFUSE(number, place, run(OPEN_B, mode, size)), REFUSE(number, place, step(0, 0)))
 
 /* Schemes, and then sizes too, that are wrong, with lists of this length. */
 static void refused_b(size_t length)
@@ -356,6 +384,156 @@ static void largest_b(size_t mode, size_t bits, size_t size)
     REFUSE_B(ORTKAVEQ_TOO_MANY_SYMBOLS, 0, mode, size + block);
 }
 
+/* ---- Streams: each OFDM symbol of a frame that is sent whole, in turn */
+
+static struct list sent_i, sent_q;
+
+/* How many bytes of a frame stand in the blocks that are complete after so many OFDM symbols. */
+static size_t bytes_after(size_t mode, size_t size, size_t sum, size_t symbols)
+{
+    size_t done = sum * symbols / blocks[mode].bits * blocks[mode].bytes;
+    return done < size ? done : size;
+}
+
+/* I and Q of one OFDM symbol, and some elements more. */
+static void symbol(size_t n, size_t more)
+{
+    i.length = q.length = ORTKAVEQ_SYMBOL + more;
+    memcpy(i.levels, sent_i.levels + n * ORTKAVEQ_SYMBOL, ORTKAVEQ_SYMBOL * sizeof(int16_t));
+    memcpy(q.levels, sent_q.levels + n * ORTKAVEQ_SYMBOL, ORTKAVEQ_SYMBOL * sizeof(int16_t));
+}
+
+/* Opens a stream for the frame that is in i and q, with an area that holds something. */
+static void open_stream(size_t mode, size_t size, size_t more)
+{
+    sent_i = i, sent_q = q;
+    ACCEPT(0, run(OPEN_B, mode, size));
+    fill(&area, size + more, 256);
+}
+
+/* Steps from one OFDM symbol to another, none of which has hits. */
+static void steps(size_t mode, size_t size, size_t sum, size_t from, size_t to)
+{
+    for (size_t n = from; n < to; n++) {
+        symbol(n, n % 2);
+        ACCEPT(0, step(bytes_after(mode, size, sum, n), bytes_after(mode, size, sum, n + 1)));
+    }
+}
+
+/* Lists that are too short for a step change nothing. */
+static void short_step(size_t size)
+{
+    EACH(less, 0, ORTKAVEQ_SYMBOL - 1) {
+        i.length = *less;
+        REFUSE(ORTKAVEQ_NO_ROOM, 0, step(0, 0));
+        i.length = ORTKAVEQ_SYMBOL, q.length = *less;
+        REFUSE(ORTKAVEQ_NO_ROOM, 0, step(0, 0));
+        q.length = ORTKAVEQ_SYMBOL;
+    }
+    size_t length = area.length;
+    EACH(less, 0, size - 1) {
+        area.length = *less;
+        REFUSE(ORTKAVEQ_NO_ROOM, 0, step(0, 0));
+    }
+    area.length = length;
+}
+
+/* A point that is none, or a sub-carrier that is not empty, in one OFDM symbol: its place is that in the whole grid, and every step repeats it. */
+static void spoilt_step(size_t mode, size_t size, size_t sum, size_t n)
+{
+    EACH(at, 255, 106) {
+        open_stream(mode, size, MORE);
+        steps(mode, size, sum, 0, n);
+        symbol(n, 0);
+        i.levels[*at] = INT16_MIN;
+        size_t number = *at == 106 ? ORTKAVEQ_FILLED : ORTKAVEQ_STRAY_POINT, place = n * ORTKAVEQ_SYMBOL + *at;
+        REFUSE(number, place, step(0, 0));
+        symbol(n, 0);
+        REFUSE(number, place, step(0, 0));
+        i.length = q.length = area.length = 0;
+        REFUSE(number, place, step(0, 0));
+        i = sent_i, q = sent_q;
+    }
+}
+
+/* A frame of so many blocks, step by step. */
+static void stream_b(size_t mode, size_t count, size_t bits)
+{
+    size_t sum = set_scheme(bits), size = count * blocks[mode].bytes, symbols = (count * blocks[mode].bits + sum - 1) / sum;
+    sent(SEND_B, mode, size, symbols * ORTKAVEQ_SYMBOL);
+    open_stream(mode, size, MORE);
+    symbol(0, 0);
+    short_step(size);
+    steps(mode, size, sum, 0, symbols);
+    HOLD(same(&area, &frame, size));
+    REFUSE(ORTKAVEQ_TOO_MANY_SYMBOLS, 0, step(0, 0));
+    i = sent_i, q = sent_q;
+    EACH(n, 0, symbols - 1)
+        spoilt_step(mode, size, sum, *n);
+}
+
+/* Three blocks of t hits each are mended in their steps; one hit more in a block, and the step in which it is complete finds it. */
+static void hit_stream(size_t mode, size_t hopeless)
+{
+    size_t size = 3 * blocks[mode].bytes, t = blocks[mode].t, sum = set_scheme(2), done = 0;
+    sent(SEND_B, mode, size, 4 * ORTKAVEQ_SYMBOL);
+    for (size_t block = 0; block < 3; block++)
+        for (size_t hit = 0; hit < t; hit++)
+            flip_b(blocks[mode].bits * block + 19 * hit);
+    if (hopeless < 3)
+        flip_b(blocks[mode].bits * hopeless + 400);
+    open_stream(mode, size, MORE);
+    for (size_t n = 0; n < 4; n++) {
+        size_t from = bytes_after(mode, size, sum, n), to = bytes_after(mode, size, sum, n + 1);
+        symbol(n, 0);
+        done = to / blocks[mode].bytes;
+        if (hopeless < done) {
+            REFUSE(ORTKAVEQ_UNCORRECTABLE, hopeless, step(0, 0));
+            continue;
+        }
+        EXPECT(0, 0, t * done, 0, done > 0 ? t : 0, step(from, to));
+    }
+}
+
+/* A stream that no opening and no steps leave, and one that holds a refusal which somebody wrote. */
+static void forged(size_t mode, size_t count)
+{
+    size_t sum = set_scheme(2), size = count * blocks[mode].bytes;
+    sent(SEND_B, mode, size, (count * blocks[mode].bits + sum - 1) / sum * ORTKAVEQ_SYMBOL);
+    open_stream(mode, size, MORE);
+    steps(mode, size, sum, 0, 1);
+    symbol(1, 0);
+    struct ortkaveq_stream good = stream.state;
+    for (size_t word = 0; word < sizeof good / 8; word++)
+        EACH(change, 1, (size_t)1 << 63) {
+            stream.state = good;
+            uint64_t at;
+            memcpy(&at, stream.bytes + 8 * word, 8);
+            at ^= *change;
+            memcpy(stream.bytes + 8 * word, &at, 8);
+            if (&stream.state.number == (uint64_t *)stream.bytes + word && *change == 1)
+                continue; /* number 1: it holds a refusal */
+            if (word < 8 && *change == 1 && 64 * word + 63 < good.count)
+                continue; /* a bit that waits */
+            if (word < 8 && *change > 1 && 64 * word < good.count)
+                continue;
+            REFUSE(ORTKAVEQ_FORGED, 0, step(0, 0));
+        }
+    memset(&stream.state, POISON, sizeof stream.state);
+    REFUSE(ORTKAVEQ_FORGED, 0, step(0, 0));
+    EACH(number, 1, 2, 3, 4, 5, 6, 7, 8, 9, 10, 11, 16) {
+        bool placed = *number == 4 || *number == 5 || (7 <= *number && *number <= 9);
+        stream.state = good, stream.state.number = *number, stream.state.place = placed ? SIZE_MAX : 0;
+        REFUSE(*number, stream.state.place, step(0, 0));
+        stream.state.place = 7;
+        REFUSE(placed ? *number : ORTKAVEQ_FORGED, placed ? 7 : 0, step(0, 0));
+    }
+    EACH(number, 12, 13, 14, 15, 17, 256 + 9, SIZE_MAX - 1) {
+        stream.state = good, stream.state.number = *number;
+        REFUSE(ORTKAVEQ_FORGED, 0, step(0, 0));
+    }
+}
+
 /* Document 01's counts, and sizes that no frame has. */
 static void counts_b(void)
 {
@@ -382,7 +560,7 @@ static void unknown(size_t length)
         EACH(job, SEND_A, RECEIVE_A)
             REFUSE(ORTKAVEQ_UNKNOWN, 0, run(*job, *mode, length));
     EACH(mode, 3, 4, 255)
-        EACH(job, SYMBOLS_B, SEND_B, RECEIVE_B)
+        EACH(job, SYMBOLS_B, SEND_B, RECEIVE_B, OPEN_B)
             REFUSE(ORTKAVEQ_UNKNOWN, 0, run(*job, *mode, length));
 }
 
@@ -401,6 +579,15 @@ static void everything(void)
                 payload_b(mode, *count, *bits);
     hits_b(1);
     hits_b(2);
+    for (size_t mode = 0; mode <= 2; mode++)
+        EACH(bits, 2, 10, 0)
+            EACH(count, 1, 2, 60)
+                stream_b(mode, *count, *bits);
+    EACH(mode, 1, 2)
+        EACH(hopeless, 0, 1, 2, 3)
+            hit_stream(*mode, *hopeless);
+    EACH(mode, 1, 2)
+        forged(*mode, 3);
     EACH(length, 0, 600)
         refused_b(*length), unknown(*length);
     counts_b();

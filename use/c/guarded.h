@@ -1,6 +1,7 @@
 /*
  * For guard.c: lists between pages that cannot be touched, and calls made with them. A list that a call only reads cannot be written. A list that it may write
- * is poisoned before; what the call is not to write has to be as it was, in the list and around it. A list of places is written whole by every call.
+ * is poisoned before; what the call is not to write has to be as it was, in the list and around it. A list of places is written whole by every call, a stream
+ * by every opening. A step finds in stream and area what the step before it left there.
  */
 #define _DEFAULT_SOURCE /* for MAP_ANONYMOUS */
 #include "ortkaveq.h"
@@ -22,15 +23,21 @@ enum {
 struct list {
     size_t length, width, room;
     uint8_t *map, *at;
-    union { uint8_t bytes[MOST_ELEMENTS * sizeof(int16_t)]; int16_t levels[MOST_ELEMENTS]; uint16_t places[ORTKAVEQ_PLACES]; };
+    union {
+        uint8_t bytes[MOST_ELEMENTS * sizeof(int16_t)];
+        int16_t levels[MOST_ELEMENTS];
+        uint16_t places[ORTKAVEQ_PLACES];
+        struct ortkaveq_stream state;
+    };
 };
 
 static struct list word = {.width = 1}, out = {.width = 1}, frame = {.width = 1}, scheme = {.width = 1}, area = {.width = 1};
 static struct list i = {.width = sizeof(int16_t)}, q = {.width = sizeof(int16_t)};
 /* Of places: in a word or in the first half, and in the second. */
 static struct list first = {.length = ORTKAVEQ_PLACES, .width = sizeof(uint16_t)}, second = {.length = ORTKAVEQ_PLACES, .width = sizeof(uint16_t)};
+static struct list stream = {.length = 1, .width = sizeof(struct ortkaveq_stream)};
 
-enum job { ENCODE, DECODE, SEND_A, RECEIVE_A, SYMBOLS_B, SEND_B, RECEIVE_B };
+enum job { ENCODE, DECODE, SEND_A, RECEIVE_A, SYMBOLS_B, SEND_B, RECEIVE_B, OPEN_B, STEP_B };
 
 /* The lists of each job, and how many of them, the first ones, it only reads. */
 static const struct { struct list *lists[6]; int read; } jobs[] = {
@@ -41,6 +48,8 @@ static const struct { struct list *lists[6]; int read; } jobs[] = {
     [SYMBOLS_B] = {{&scheme}, 1},
     [SEND_B] = {{&frame, &scheme, &i, &q}, 2},
     [RECEIVE_B] = {{&scheme, &i, &q, &area}, 3},
+    [OPEN_B] = {{&scheme, &stream}, 1},
+    [STEP_B] = {{&i, &q, &stream, &area}, 2},
 };
 
 /* An answer; the count is of bits mended, or of OFDM symbols. */
@@ -112,20 +121,34 @@ static struct told call(enum job job, uint8_t mode, size_t size)
     case RECEIVE_A: return received(ortkaveq_receive_a(mode, LIST(i), LIST(q), LIST(area), (void *)first.at, (void *)second.at));
     case SYMBOLS_B: return told_symbols(ortkaveq_symbols_b(mode, size, LIST(scheme)));
     case SEND_B: return told(ortkaveq_send_b(mode, LIST(frame), LIST(scheme), LIST(i), LIST(q)));
-    default: return received(ortkaveq_receive_b(mode, size, LIST(scheme), LIST(i), LIST(q), LIST(area)));
+    case RECEIVE_B: return received(ortkaveq_receive_b(mode, size, LIST(scheme), LIST(i), LIST(q), LIST(area)));
+    case OPEN_B: return told(ortkaveq_open_b(mode, size, LIST(scheme), (void *)stream.at));
+    default: return received(ortkaveq_step_b((void *)stream.at, LIST(i), LIST(q), LIST(area)));
     }
 }
 
 static bool of_places(const struct list *l) { return l == &first || l == &second; }
 
+/* What an opening leaves in a stream: nothing seen yet, or a refusal and else no frame. */
+static void opened(struct told answer, uint8_t mode, size_t size)
+{
+    struct ortkaveq_stream expected = {.number = answer.number, .place = answer.place, .scrambler = 0x24D8};
+    if (answer.number == 0) {
+        expected.mode = mode, expected.size = size;
+        memcpy(expected.scheme, scheme.bytes, ORTKAVEQ_SCHEME);
+    }
+    if (memcmp(&stream.state, &expected, sizeof expected) != 0)
+        FAIL("a stream that is opened, or that holds number %zu", answer.number);
+}
+
 /*
- * Makes a call, by a code or mode. Size is how many elements of each lent list it writes if it is accepted; for symbols B, without any, the frame's bytes.
- * Places are all 0 in a refusal, and where nothing is mended; where something is, guard.c knows them.
+ * Makes a call, by a code or mode. Size is how many elements of each lent list it writes if it is accepted; for symbols B, without any, and for opening B the
+ * frame's bytes. Places are all 0 in a refusal, and where nothing is mended; where something is, guard.c knows them. It knows too what a step leaves.
  */
 static struct told run(enum job job, size_t mode, size_t size)
 {
     struct list *const *lists = jobs[job].lists, *const *lent = lists + jobs[job].read, *const *l;
-    for (l = lent; *l; l++)
+    for (l = lent; *l && job != STEP_B; l++)
         memset((*l)->bytes, POISON, sizeof (*l)->bytes);
     for (l = lists; *l; l++)
         place(*l, l < lent);
@@ -133,10 +156,12 @@ static struct told run(enum job job, size_t mode, size_t size)
     calls++;
     for (l = lists; *l; l++)
         take(*l);
+    if (job == OPEN_B)
+        opened(answer, (uint8_t)mode, size);
     bool cleared = job == RECEIVE_B && answer.number == ORTKAVEQ_UNCORRECTABLE;
     if (cleared)
         all(&area, 0, size, 0);
-    for (l = lent; *l; l++)
+    for (l = lent; *l && job != OPEN_B && job != STEP_B; l++)
         if (!of_places(*l))
             all(*l, answer.number == 0 || cleared ? size : 0, (*l)->length, POISON);
         else if (answer.number != 0 || answer.count == 0)

@@ -1,22 +1,23 @@
 /*
- * Ortkaveq: payload coding for HiNoC (ITU-T J.195.2), as seven calls for C11 and C++11.
+ * Ortkaveq: payload coding for HiNoC (ITU-T J.195.2), as nine calls for C11 and C++11.
  *
  * docs/SCOPE.md says what is asked of each job, docs/READING.md what is proved of it. The code behind these declarations is proved; that the declarations
  * are those of the code is not proved but run (use/c/check).
  *
- * A list is passed as a pointer and then its length, in elements and not in bytes; a list of places, always of 16 elements, as a pointer alone.
+ * A list is passed as a pointer and then its length, in elements and not in bytes; a list of places, always of 16 elements, and a stream as a pointer alone.
  *
  * What a caller owes, and no call can see for itself:
- *   - a pointer leads to as many elements as its length says, or to 16 places, is aligned for them, and is not null, not even where the length is 0
- *     (as data() of an empty std::vector may be);
- *   - a list that a call may write overlaps no other list of that call;
- *   - while a call runs nothing else writes to its lists, or reads those that it may write.
+ *   - a pointer leads to as many elements as its length says, to 16 places or to a stream, is aligned for them, and is not null, not even where the length is
+ *     0 (as data() of an empty std::vector may be);
+ *   - a list or stream that a call may write overlaps no other one of that call;
+ *   - while a call runs nothing else writes to its lists or stream, or reads those that it may write.
  * Everything else may be wrong: any code or mode, length or content is answered, with 0 or with the number of a refusal. But a code or mode is 8 bits: of a
  * wider number C hands over the lowest 8 alone, without a word, so that 257 is taken for 1.
  *
- * No call keeps anything: there is no state, nothing is allocated, and any thread may call at any time. Stack: less than 16 KiB a call (docs/SPEED.md).
+ * No call keeps anything: what a stream remembers stands in the caller's struct ortkaveq_stream and nowhere else, nothing is allocated, and any thread may call
+ * at any time. Stack: less than 16 KiB a call (docs/SPEED.md).
  *
- * Machines of 64 bits only, x86-64 and Arm. On a machine of 32 bits an answer would not come back as it is declared here.
+ * Machines of 64 bits only, x86-64 and Arm, the lowest byte of a number first. On a machine of 32 bits an answer would not come back as it is declared here.
  */
 #ifndef ORTKAVEQ_H
 #define ORTKAVEQ_H
@@ -29,7 +30,10 @@
 extern "C" {
 #endif
 
-/* ---- Numbers: why a call refused. Checks run in the order 1, 2, 5, 6, 3, 4, 7, 8, 11, 9, 10, each where it applies; the first that fails gives the number. */
+/*
+ * ---- Numbers: why a call refused. Checks run in the order 1, 2, 5, 6, 3, 4, 7, 8, 11, 9, 10, each where it applies; the first that fails gives the number. A
+ * step of a stream begins with its own: the refusal that the stream holds, then 16.
+ */
 
 enum ortkaveq_number {
     ORTKAVEQ_ACCEPTED = 0,         /* Accepted. Place 0. */
@@ -38,12 +42,13 @@ enum ortkaveq_number {
     ORTKAVEQ_NO_ROOM = 3,          /* A list of points or a list for output is too short. Place 0. */
     ORTKAVEQ_NOT_A_BIT = 4,        /* An element of a word is neither 0 nor 1. Place: the first such element. */
     ORTKAVEQ_BAD_SCHEME = 5,       /* A scheme not of 210 entries (place 210), or an entry outside 2 to 10. Place: the first such entry. */
-    ORTKAVEQ_TOO_MANY_SYMBOLS = 6, /* More than 256 OFDM symbols would be needed. Place 0. */
+    ORTKAVEQ_TOO_MANY_SYMBOLS = 6, /* More than 256 OFDM symbols would be needed; in a stream, one more than the frame needs. Place 0. */
     ORTKAVEQ_FILLED = 7,           /* An unavailable sub-carrier is not (0,0). Place: its index in I and Q, the least such one. */
     ORTKAVEQ_STRAY_POINT = 8,      /* A point that is none of its sub-carrier's constellation. Place: its index in I and Q, the first in the order sent. */
     ORTKAVEQ_UNCORRECTABLE = 9,    /* No codeword lies near enough. Place: the first such block; 0 for a single word. */
     ORTKAVEQ_WRONG_CHECK = 10,     /* Payload A: the frame check is wrong. Place 0. */
-    ORTKAVEQ_NOISE = 11            /* Payload A: more than 12 of the 56 bits of the protected fields differ. Place 0. */
+    ORTKAVEQ_NOISE = 11,           /* Payload A: more than 12 of the 56 bits of the protected fields differ. Place 0. */
+    ORTKAVEQ_FORGED = 16           /* A stream that no opening and no steps leave so. Place 0. */
 };
 
 /* ---- Sizes */
@@ -79,23 +84,26 @@ enum {
     ORTKAVEQ_SYMBOL = 256,
 
     /* The most OFDM symbols of a frame, its elements of I and of Q then, and the most bytes of any frame (mode 0, every entry 10). */
-    ORTKAVEQ_MOST_SYMBOLS = 256, ORTKAVEQ_MOST_LEVELS = 65536, ORTKAVEQ_MOST_BYTES = 67200
+    ORTKAVEQ_MOST_SYMBOLS = 256, ORTKAVEQ_MOST_LEVELS = 65536, ORTKAVEQ_MOST_BYTES = 67200,
+
+    /* A stream: its bytes. */
+    ORTKAVEQ_STREAM_BYTES = 352
 };
 
 /* ---- Answers. In a refusal every count is 0. */
 
-/* Of encode, decode and send. */
+/* Of encode, decode and send, and of opening a stream. */
 struct ortkaveq_answer {
     uint32_t number; /* 0, or why the call refused: enum ortkaveq_number */
-    uint32_t mended; /* bits mended; 0 for encode and send */
+    uint32_t mended; /* bits mended; 0 for encode, send and opening */
     uint64_t place;  /* where, as the number says */
 };
 
 /*
- * Of receive, both payloads. mended and worst are the quality of the line: in how many places the coded bits received differ from those that sending the frame
- * again would give, in all and in the worst block; fill and protected bits are not counted. Uncoded, both are 0. In a refusal they are 0 too, as for a clean
- * frame: whoever ranks lines looks at number first, and counts refusals himself. A block that became another codeword counts the bits by which it missed that
- * one.
+ * Of receive, both payloads, and of a step of a stream. mended and worst are the quality of the line: in how many places the coded bits received differ
+ * from those that sending the frame again would give, in all and in the worst block; fill and protected bits are not counted. Uncoded, both are 0. In a
+ * refusal they are 0 too, as for a clean frame: whoever ranks lines looks at number first, and counts refusals himself. A block that became another
+ * codeword counts the bits by which it missed that one.
  */
 struct ortkaveq_received {
     uint16_t number;
@@ -111,6 +119,25 @@ struct ortkaveq_answer_symbols {
     uint64_t place;
 };
 
+/*
+ * ---- A stream: what is kept of a frame of Payload B between one OFDM symbol and the next. ortkaveq_open_b fills it, ortkaveq_step_b reads and writes it; a
+ * caller keeps it, copies it as it likes, and need not look into it. Any bytes may stand there: what no opening and no steps leave is answered with 16, but for
+ * one that holds a refusal: it repeats that, whoever wrote it.
+ */
+struct ortkaveq_stream {
+    uint64_t block[8];   /* the bits that wait for their block, the first one the highest of the first word, and zeros behind them */
+    uint64_t count;      /* how many wait */
+    uint64_t size;       /* bytes of the frame */
+    uint64_t seen;       /* OFDM symbols received */
+    uint64_t mended;     /* bits mended in the blocks that are complete, in all and in the worst one */
+    uint64_t worst;
+    uint64_t place;      /* of the refusal that the stream holds; 0 where there is none */
+    uint64_t number;     /* its number; 0: the stream is open */
+    uint64_t scrambler;  /* the scrambler's register, behind those blocks */
+    uint64_t mode;
+    uint8_t scheme[216]; /* 210 entries, and zeros behind them */
+};
+
 static_assert(sizeof(size_t) == 8, "a machine of 64 bits");
 static_assert(sizeof(struct ortkaveq_answer) == 16 && offsetof(struct ortkaveq_answer, mended) == 4 && offsetof(struct ortkaveq_answer, place) == 8,
               "the answer of encode, decode and send");
@@ -120,6 +147,10 @@ static_assert(sizeof(struct ortkaveq_received) == 16 && offsetof(struct ortkaveq
 static_assert(sizeof(struct ortkaveq_answer_symbols) == 16 && offsetof(struct ortkaveq_answer_symbols, symbols) == 4
                   && offsetof(struct ortkaveq_answer_symbols, place) == 8,
               "the answer of ortkaveq_symbols_b");
+
+static_assert(sizeof(struct ortkaveq_stream) == ORTKAVEQ_STREAM_BYTES && offsetof(struct ortkaveq_stream, count) == 64
+                  && offsetof(struct ortkaveq_stream, mode) == 128 && offsetof(struct ortkaveq_stream, scheme) == 136,
+              "a stream: seventeen numbers, and a scheme");
 
 /* ---- BCH words: lists of bits, an element each, 0 or 1 */
 
@@ -163,7 +194,8 @@ struct ortkaveq_received ortkaveq_receive_a(uint8_t mode, const int16_t *i, size
 /* ---- Payload B: modes 0, 1 and 2, up to 256 OFDM symbols, points by a scheme */
 
 /*
- * How many OFDM symbols a frame of size bytes needs: so many times 256 elements of i and of q are sent, and asked for by the two calls below.
+ * How many OFDM symbols a frame of size bytes needs: so many times 256 elements of i and of q are sent, and asked for by the two
+ * calls below; a stream takes as many steps.
  * Reads: scheme, 210 entries, exactly. Writes nothing.
  * Refuses with 1, 2, 5, 6, as send B does.
  */
@@ -187,6 +219,28 @@ struct ortkaveq_answer ortkaveq_send_b(uint8_t mode, const uint8_t *frame, size_
  */
 struct ortkaveq_received ortkaveq_receive_b(uint8_t mode, size_t size, const uint8_t *scheme, size_t scheme_length, const int16_t *i, size_t i_length,
                                             const int16_t *q, size_t q_length, uint8_t *area, size_t area_length);
+
+/* ---- Payload B one OFDM symbol at a time */
+
+/*
+ * Opens a stream for a frame of size bytes.
+ * Reads: scheme, 210 entries, exactly. Writes: all of stream, whatever stood there.
+ * Refuses with 1, 2, 5, 6, as receive B does; the stream then holds the refusal, and every step repeats it.
+ */
+struct ortkaveq_answer ortkaveq_open_b(uint8_t mode, size_t size, const uint8_t *scheme, size_t scheme_length, struct ortkaveq_stream *stream);
+
+/*
+ * Receives the next OFDM symbol of a stream; all steps of a frame are lent the same area. Where all of them are accepted, area and counts are in the end
+ * those of receive B over the whole grid, and what is said there of blocks with more than t hits holds here too.
+ * Reads: stream; the first 256 elements of i and of q, this OFDM symbol's. Writes: to area the bytes of the blocks that are complete by it, in their place
+ * in the frame, and no others; stream. mended and worst are over the blocks complete so far. Bytes of area whose block is not complete yet keep what they
+ * held.
+ * Refuses with the number that the stream holds, with 16, with 6 after the last OFDM symbol, with 3: these write nothing, neither to area nor to stream,
+ * and after 3 the step may be made again with longer lists. Then with 7, 8, 9: these leave the first size bytes of area all zero, and from there on the
+ * stream holds the refusal; its place is the index in the whole grid, or the block in the whole frame. Bytes of area beyond size keep what they held.
+ */
+struct ortkaveq_received ortkaveq_step_b(struct ortkaveq_stream *stream, const int16_t *i, size_t i_length, const int16_t *q, size_t q_length, uint8_t *area,
+                                         size_t area_length);
 
 #ifdef __cplusplus
 }

@@ -1,8 +1,8 @@
 /*
  * The trial program over ortkaveq.h: reads requests from standard input, makes the calls and writes the responses to standard output. crates/trial/src/main.rt
- * has the format. What no response shows it holds itself, and aborts where that fails: that ortkaveq_symbols_b agrees with the jobs of Payload B, that a job
- * without counts has mended nothing, and that receive B's fields are 0. Integers go in and out as they lie in memory: for little-endian machines, as both of
- * ours are.
+ * has the format, second/README.md that of jobs 9 and 16, streams and single steps. What no response shows it holds itself, and aborts where that fails: that
+ * ortkaveq_symbols_b agrees with the jobs of Payload B and with opening a stream, that a job without counts has mended nothing, and that receive B's fields are
+ * 0, and a step's. Integers go in and out as they lie in memory: for little-endian machines, as both of ours are.
  */
 #include "ortkaveq.h"
 
@@ -13,6 +13,9 @@
 
 /* The most elements of a list of bytes, and of a list of levels; the most lists of a job, and of places; what these have in each byte before a call. */
 enum { MOST_BYTES = 67300, MOST_LEVELS = 65600, LISTS = 4, PLACE_LISTS = 2, POISON = 0xA5 };
+
+/* The two jobs of streams, and the bytes of a state in a request. */
+enum { STREAM = 9, STEP = 16, STATE_BYTES = 326 };
 
 /* Jobs 1 to 6: their lists, of bytes or levels, how many of them, the last ones, are lent, and how many counts and lists of places the response has. */
 static const struct { const char *lists; int lent, counts, places; } jobs[] = {
@@ -109,23 +112,33 @@ static void hold_symbols(struct told job, uint8_t mode, size_t size, const struc
     hold(short_of == (number == ORTKAVEQ_NO_ROOM), "the job asks for another room than ortkaveq_symbols_b");
 }
 
-/* What a response has for each job: number, place, its counts, its lists of places without their length, and the lent lists. */
-static void put_response(uint8_t job, struct told answer, const struct list *places, const struct list *lent)
+/* Number and place, and as many counts. */
+static void put_told(struct told answer, int counts)
 {
-    hold(answer.number <= ORTKAVEQ_NOISE, "there is no such number");
-    hold(jobs[job].counts > 0 || answer.counts[0] == 0, "a job that mends nothing has mended bits");
+    hold(answer.number <= ORTKAVEQ_NOISE || answer.number == ORTKAVEQ_FORGED, "there is no such number");
+    hold(counts > 0 || answer.counts[0] == 0, "a job that mends nothing has mended bits");
     put(&(uint8_t){(uint8_t)answer.number}, sizeof(uint8_t));
     put(&answer.place, sizeof answer.place);
-    put(answer.counts, jobs[job].counts * sizeof *answer.counts);
-    for (const struct list *l = places; l < places + jobs[job].places; l++)
-        put(l->at, l->length * l->width);
-    for (const struct list *l = lent; l < lent + jobs[job].lent; l++) {
-        put(&(uint32_t){(uint32_t)l->length}, sizeof(uint32_t));
-        put(l->at, l->length * l->width);
-    }
+    put(answer.counts, counts * sizeof *answer.counts);
 }
 
-/* The rest of a request. */
+static void put_list(const struct list *l)
+{
+    put(&(uint32_t){(uint32_t)l->length}, sizeof(uint32_t));
+    put(l->at, l->length * l->width);
+}
+
+/* What a response has for each of jobs 1 to 6: number, place, its counts, its lists of places without their length, and the lent lists. */
+static void put_response(uint8_t job, struct told answer, const struct list *places, const struct list *lent)
+{
+    put_told(answer, jobs[job].counts);
+    for (const struct list *l = places; l < places + jobs[job].places; l++)
+        put(l->at, l->length * l->width);
+    for (const struct list *l = lent; l < lent + jobs[job].lent; l++)
+        put_list(l);
+}
+
+/* The rest of a request of jobs 1 to 6. */
 static void serve(uint8_t job)
 {
     struct list l[LISTS], places[PLACE_LISTS];
@@ -151,10 +164,124 @@ static void serve(uint8_t job)
         free(places[n].at);
 }
 
+/* ---- Streams */
+
+/* A step, with I, Q and the area. */
+static struct told step(struct ortkaveq_stream *stream, const struct list *l)
+{
+    return told_b(ortkaveq_step_b(stream, LIST(0), LIST(1), LIST(2)));
+}
+
+/* A stream in memory of its own, poisoned: an opening writes all of it. */
+static struct ortkaveq_stream *make_stream(void)
+{
+    struct ortkaveq_stream *stream = malloc(sizeof *stream);
+    hold(stream != NULL, "there is no memory for a stream");
+    memset(stream, POISON, sizeof *stream);
+    return stream;
+}
+
+/* An opening finds what ortkaveq_symbols_b finds, and the stream holds it. */
+static void hold_opened(struct told opened, uint8_t mode, size_t size, const struct list *l, const struct ortkaveq_stream *stream)
+{
+    struct ortkaveq_answer_symbols needed = ortkaveq_symbols_b(mode, size, LIST(0));
+    hold(needed.number == opened.number && needed.place == opened.place, "ortkaveq_symbols_b refuses otherwise than the opening");
+    hold(stream->number == opened.number && stream->place == opened.place, "the stream holds another refusal than it was answered");
+}
+
+/* The rest of a request of job 9: opens a stream, and makes its calls, all with one area. */
+static void serve_stream(void)
+{
+    struct ortkaveq_stream *stream = make_stream();
+    uint8_t mode;
+    uint64_t size;
+    uint32_t calls;
+    get(&mode, sizeof mode);
+    get(&size, sizeof size);
+    struct list scheme = get_list('b'), l[3];
+    l[2] = get_list('b');
+    get(&calls, sizeof calls);
+    struct told opened = told(ortkaveq_open_b(mode, size, scheme.at, scheme.length, stream));
+    hold_opened(opened, mode, size, &scheme, stream);
+    put_told(opened, 0);
+    while (calls-- > 0) {
+        l[0] = get_list('l'), l[1] = get_list('l');
+        put_told(step(stream, l), 2);
+        put_list(&l[2]);
+        free(l[0].at), free(l[1].at);
+    }
+    free(l[2].at), free(scheme.at), free(stream);
+}
+
+/* The next of a state's bytes, to a field or back; mode, register and number have fewer of them than the field has. */
+static void move(void *field, size_t bytes, uint8_t **at, bool back)
+{
+    if (back)
+        memcpy(*at, field, bytes);
+    else
+        memcpy(field, *at, bytes);
+    *at += bytes;
+}
+
+/* A state of 326 bytes, to a stream that is all zero, or back. */
+static void move_state(struct ortkaveq_stream *s, uint8_t *bytes, bool back)
+{
+    uint8_t *at = bytes;
+    move(s->scheme, ORTKAVEQ_SCHEME, &at, back);
+    move(s->block, sizeof s->block, &at, back);
+    move(&s->count, sizeof s->count, &at, back);
+    move(&s->mode, sizeof(uint8_t), &at, back);
+    move(&s->size, sizeof s->size, &at, back);
+    move(&s->seen, sizeof s->seen, &at, back);
+    move(&s->scrambler, sizeof(uint16_t), &at, back);
+    move(&s->mended, sizeof s->mended, &at, back);
+    move(&s->worst, sizeof s->worst, &at, back);
+    move(&s->number, sizeof(uint8_t), &at, back);
+    move(&s->place, sizeof s->place, &at, back);
+    hold(at == bytes + STATE_BYTES, "a state has another number of bytes");
+}
+
+/* Whether a stream has nothing but what the bytes of a state can say. */
+static bool within(const struct ortkaveq_stream *s)
+{
+    bool zeros = true;
+    for (size_t n = ORTKAVEQ_SCHEME; n < sizeof s->scheme; n++)
+        zeros = zeros && s->scheme[n] == 0;
+    return zeros && s->mode <= UINT8_MAX && s->scrambler <= UINT16_MAX && s->number <= UINT8_MAX;
+}
+
+/* The rest of a request of job 16: one step from any state. A list of another length is none, and ends the program. */
+static void serve_step(void)
+{
+    struct ortkaveq_stream *stream = make_stream();
+    struct list state = get_list('b');
+    if (state.length != STATE_BYTES)
+        exit(EXIT_SUCCESS);
+    struct list l[3];
+    for (int n = 0; n < 3; n++)
+        l[n] = get_list("llb"[n]);
+    memset(stream, 0, sizeof *stream);
+    move_state(stream, state.at, false);
+    struct told answer = step(stream, l);
+    hold(within(stream), "a step leaves what no state has");
+    move_state(stream, state.at, true);
+    put_told(answer, 2);
+    put_list(&state);
+    put_list(&l[2]);
+    for (int n = 0; n < 3; n++)
+        free(l[n].at);
+    free(state.at), free(stream);
+}
+
 int main(void)
 {
     uint8_t job;
-    while (get(&job, sizeof job), 1 <= job && job <= 6)
-        serve(job);
+    while (get(&job, sizeof job), (1 <= job && job <= 6) || job == STREAM || job == STEP)
+        if (job == STREAM)
+            serve_stream();
+        else if (job == STEP)
+            serve_step();
+        else
+            serve(job);
     return EXIT_SUCCESS;
 }

@@ -5,7 +5,7 @@ use mathlib.Core.Bool.{Bool, true, false, cond}
 use Prim.Native.Nat.{ℕ, _<_}
 use native.Mathlib.Omega.{arith}
 use lib.Dec.{eqb}
-use Rattle.answers.specs.Answers.{accepted, refused, because, ofWritten, ofDecoded, ofReceivedA, ofReceivedB, ToldWord, ofWord, ToldBurst, ofBurst}
+use Rattle.answers.specs.Answers.{accepted, refused, because, ofWritten, ofDecoded, ofReceivedA, ofReceivedB, refusalAt, ToldWord, ofWord, ToldBurst, ofBurst}
 use Rattle.answers.specs.Checks.{Checked}
 use Rattle.answers.specs.declared.Refusal.{Refusal}
 use Rattle.answers.specs.declared.Refusal.the-variants.{Unknown, WrongLength, NoRoom, NotABit, BadScheme, TooManySymbols, Occupied, StrayPoint, Uncorrectable, WrongCheck, Noise, Forged}
@@ -21,28 +21,28 @@ use Rattle.answers.specs.declared.ReceivedB.the-variants as receivedB
 use Rattle.answers.specs.declared.DecodedWord.{DecodedWord}
 use Rattle.answers.specs.declared.ReceivedBurst.{ReceivedBurst}
 
+-- a refusal, out of its number and place
+pub refusal-at : (r : Refusal) → refusalAt (because r .number) (because r .place) ≡ r
+refusal-at Unknown = refl
+refusal-at WrongLength = refl
+refusal-at NoRoom = refl
+refusal-at (NotABit i) = refl
+refusal-at (BadScheme i) = refl
+refusal-at TooManySymbols = refl
+refusal-at (Occupied i) = refl
+refusal-at (StrayPoint i) = refl
+refusal-at (Uncorrectable i) = refl
+refusal-at WrongCheck = refl
+refusal-at Noise = refl
+refusal-at Forged = refl
+
 -- the refusal that tells this
 pub refusalOf : Told → Refusal
-refusalOf t =
-    cond (eqb (t .number) 1) Unknown (cond (eqb (t .number) 2) WrongLength (cond (eqb (t .number) 3) NoRoom (cond (eqb (t .number) 4) (NotABit (t .place))
-    (cond (eqb (t .number) 5) (BadScheme (t .place)) (cond (eqb (t .number) 6) TooManySymbols (cond (eqb (t .number) 7) (Occupied (t .place))
-    (cond (eqb (t .number) 8) (StrayPoint (t .place)) (cond (eqb (t .number) 9) (Uncorrectable (t .place)) (cond (eqb (t .number) 10) WrongCheck
-    (cond (eqb (t .number) 11) Noise Forged))))))))))
+refusalOf t = refusalAt (t .number) (t .place)
 
 pub refusal-of : (r : Refusal) → refusalOf (because r) ≡ r
 unfolding refusalOf
-refusal-of Unknown = refl
-refusal-of WrongLength = refl
-refusal-of NoRoom = refl
-refusal-of (NotABit i) = refl
-refusal-of (BadScheme i) = refl
-refusal-of TooManySymbols = refl
-refusal-of (Occupied i) = refl
-refusal-of (StrayPoint i) = refl
-refusal-of (Uncorrectable i) = refl
-refusal-of WrongCheck = refl
-refusal-of Noise = refl
-refusal-of Forged = refl
+refusal-of r = refusal-at r
 
 -- only what is accepted has number 0
 pub numbered : (r : Refusal) → eqb (because r .number) 0 ≡ false

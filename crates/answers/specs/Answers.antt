@@ -2,8 +2,10 @@
 -- that no opening and no steps give, is ours). In a refusal all counts are 0, and so is a count that the job does not have.
 -- Of a word and of a burst also the places mended (document 02, item 10). In a refusal there are none.
 -- Assumes nothing.
+use mathlib.Core.Bool.{cond}
 use mathlib.Core.List.{List, [], _++_}
 use Prim.Native.Nat.{ℕ, _-_}
+use lib.Dec.{eqb}
 use lib.ListN.{length, replicate}
 use Rattle.answers.specs.declared.Refusal.{Refusal}
 use Rattle.answers.specs.declared.Refusal.the-variants.{Unknown, WrongLength, NoRoom, NotABit, BadScheme, TooManySymbols, Occupied, StrayPoint, Uncorrectable, WrongCheck, Noise, Forged}
@@ -40,6 +42,13 @@ because (Uncorrectable i) = refused 9 i
 because WrongCheck = refused 10 0
 because Noise = refused 11 0
 because Forged = refused 16 0
+
+-- the refusal that a number and a place tell; of a number that no refusal has, that of a forged state
+abbrev pub refusalAt : ℕ → ℕ → Refusal
+refusalAt number place =
+    cond (eqb number 1) Unknown (cond (eqb number 2) WrongLength (cond (eqb number 3) NoRoom (cond (eqb number 4) (NotABit place)
+    (cond (eqb number 5) (BadScheme place) (cond (eqb number 6) TooManySymbols (cond (eqb number 7) (Occupied place) (cond (eqb number 8) (StrayPoint place)
+    (cond (eqb number 9) (Uncorrectable place) (cond (eqb number 10) WrongCheck (cond (eqb number 11) Noise Forged))))))))))
 
 -- what encode, send A and send B tell
 abbrev pub ofWritten : Written → Told

@@ -1,7 +1,7 @@
 // What the jobs answer (document 01, "Refusal numbers"): accepted, with the counts that the job has, or refused, for a reason at a place.
 // Number, place and counts of each answer come from here, for C, the trial program and the report alike.
 ghost use mathlib.Core.Path.{_≡_};
-ghost use Rattle.answers.specs.Answers.{accepted, refused, because, ofWritten, ofDecoded, ofReceivedA, ofReceivedB, noWord, noBurst};
+ghost use Rattle.answers.specs.Answers.{accepted, refused, because, ofWritten, ofDecoded, ofReceivedA, ofReceivedB, refusalAt, noWord, noBurst};
 
 // Why a word, a frame, a grid or a state is refused, in the order of the numbers: document 01's, document 02's behind them, and 16, which is ours.
 pub enum Refusal {
@@ -133,6 +133,26 @@ pub fn of_refusal(why: Refusal) -> Told
         Refusal::WrongCheck => refused(10, 0),
         Refusal::Noise => refused(11, 0),
         Refusal::Forged => refused(16, 0),
+    }
+}
+
+// The refusal that a number and a place tell; of a number that no refusal has, that of a forged state.
+pub fn refusal_of(number: u64, place: usize) -> Refusal
+    ensures { λ r. ⌜ r ≡ refusalAt number place ⌝ }
+{
+    match number {
+        1 => Refusal::Unknown,
+        2 => Refusal::WrongLength,
+        3 => Refusal::NoRoom,
+        4 => Refusal::NotABit(place),
+        5 => Refusal::BadScheme(place),
+        6 => Refusal::TooManySymbols,
+        7 => Refusal::Occupied(place),
+        8 => Refusal::StrayPoint(place),
+        9 => Refusal::Uncorrectable(place),
+        10 => Refusal::WrongCheck,
+        11 => Refusal::Noise,
+        _ => Refusal::Forged,
     }
 }
 

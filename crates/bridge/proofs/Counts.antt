@@ -1,17 +1,18 @@
 -- Counts fit their fields.
 -- Assumes nothing.
-use mathlib.Core.Path.{_≡_, refl, ap}
+use mathlib.Core.Path.{_≡_, refl, sym, ap, subst}
 use mathlib.Core.Logic.{inl, inr}
-use mathlib.Core.Bool.{Bool, true, false, cond}
+use mathlib.Core.Bool.{Bool, true, false, cond, _&&_}
 use mathlib.Core.List.{List}
-use Prim.Native.Nat.{ℕ, zero, suc, _*_, _≤_}
-use native.Mathlib.Nat.{mul-le-mul-left}
+use Prim.Native.Nat.{ℕ, zero, suc, _*_, _≤_, _<_}
+use native.Mathlib.Nat.{mul-comm, mul-le-mul-left}
 use native.Mathlib.Omega.{arith}
-use lib.Dec.{eqb}
+use borrow.Author.Tests.{ltb-true}
+use lib.Dec.{eqb, leb, ltb}
 use lib.IntN.{ℤ}
 use lib.ListN.{length}
 use Rattle.answers.specs.Answers.{accepted, refused, ofWritten, ofDecoded, ofReceivedA, ofReceivedB}
-use Rattle.answers.specs.Checks.{Checked, passes}
+use Rattle.answers.specs.Checks.{Checked, fails, passes}
 use Rattle.answers.specs.declared.Told.{Told}
 use Rattle.answers.specs.declared.Written.{Written}
 use Rattle.answers.specs.declared.Written.the-variants as written
@@ -21,20 +22,29 @@ use Rattle.answers.specs.declared.ReceivedA.the-variants as receivedA
 use Rattle.answers.specs.declared.ReceivedBurst.{ReceivedBurst}
 use Rattle.answers.specs.declared.ReceivedB.{ReceivedB}
 use Rattle.answers.specs.declared.ReceivedB.the-variants as receivedB
-use Rattle.answers.proofs.Telling.{word-told, because-is}
+use Rattle.answers.proofs.Telling.{word-told, because-is, by-test}
 use Rattle.bits.proofs.Distances.{differ-le}
 use Rattle.bch.specs.Codes.{Code}
 use Rattle.bch.specs.Promise.{Decodes, Decoding}
 use Rattle.bch.proofs.Once.{by-check}
 use Rattle.payload_a.specs.PromiseA.{wireA, ReceivingA}
 use Rattle.payload_a.proofs.TripsA.{sent-again, quality-a}
-use Rattle.payload_b.specs.CodedB.{blocksIn, bitsFor}
+use Rattle.payload_b.specs.CodedB.{blocksIn, bitsFor, symbolsFor}
+use Rattle.symbols.specs.Grid.{subCarriers}
+use Rattle.symbols.specs.Grids.{room}
 use Rattle.symbols.specs.Schemes.{sumOf}
-use Rattle.payload_b.specs.PromiseB.{mendsB, ReceivingB}
+use Rattle.payload_b.specs.PromiseB.{mendsB, pointsCheckedB, ReceivingB}
 use Rattle.payload_b.specs.PlanB.{Sendable}
+use Rattle.payload_b.specs.StreamB.{sound, Kept, stepChecked, Takes, Steps, SteppingB}
+use Rattle.payload_b.specs.declared.stream.State.{State}
+use Rattle.payload_b.specs.declared.stream.Course.{Course}
+use Rattle.payload_b.specs.declared.stream.Course.the-variants.{Open, Refused}
 use Rattle.symbols.proofs.Schemes.{sum-most}
 use Rattle.payload_b.proofs.Plans.{symbols-hold}
 use Rattle.payload_b.proofs.TripsB.{up-sendable, quality-b}
+use Rattle.payload_b.proofs.StatesB.{after-few, sound-kept}
+use Rattle.payload_b.proofs.GivenB.{onward-kept}
+use Rattle.payload_b.specs.Courses.{toldOf}
 
 -- what is told has at most so many bits mended, so many protected bits that differ, and so many bits mended in the worst block
 pub record Few (m p w : ℕ) (t : Told) : Type 0 where
@@ -53,6 +63,12 @@ few-refused e = record { mended = rw e (omega arith); protected = rw e (omega ar
 pub few-written : (a : Written) → Few 0 0 0 (ofWritten a)
 few-written written.Accepted = few-accepted refl (omega arith) (omega arith) (omega arith)
 few-written (written.Refused why) = few-refused (because-is why)
+
+-- ---- opening: none either
+
+pub few-opened : (c : Course) → Few 0 0 0 (toldOf c)
+few-opened Open = few-accepted refl (omega arith) (omega arith) (omega arith)
+few-opened (Refused why) = few-refused (because-is why)
 
 -- ---- decode
 
@@ -112,3 +128,39 @@ few-received-b area (receivedB.Accepted m w) after mode n scheme is qs receiving
     let few = few-blocks mode n m w (plan .known) (bits-most plan) (q .high) (q .near) in
     few-accepted refl (few .0) (omega arith) (few .1)
 few-received-b area (receivedB.Refused why) after mode n scheme is qs receiving = few-refused (because-is why)
+
+-- ---- a step: the counts are over the blocks complete so far
+
+kept-few : (s : State) → Kept s → (s .mended ≤ 8528) × (s .worst ≤ 8)
+kept-few s kept =
+    let plan = kept .sendable in
+    let blocks = blocksIn (s .mode) (s .size) in
+    let high = mul-le-mul-left (s .worst) (after-few plan (s .seen)) in
+    few-blocks (s .mode) (s .size) (s .mended) (s .worst) (plan .known) (bits-most plan)
+    (omega (arith, kept .most, high, mul-comm blocks (s .worst))) (kept .near)
+
+module _ (s : State) (is qs : List ℤ) (area : List ℕ) (answer : ReceivedB) (s' : State) (area' : List ℕ) where
+  abbrev FewAfter : Checked Unit → Type 0
+  FewAfter k = Steps k s is qs area answer s' area' → Few 8528 0 8 (ofReceivedB answer)
+
+  took : Kept s → s .seen < symbolsFor (s .mode) (s .size) (s .scheme) → (k : Checked Unit) → Takes k s is qs area answer s' area'
+      → Few 8528 0 8 (ofReceivedB answer)
+  took kept l (fails number index) p = few-refused (p .tells)
+  took kept l (passes _) (inl p) =
+      let few = kept-few s' (subst Kept (sym (p .state)) (onward-kept s kept is qs l (p .out) (p .fits))) in
+      few-accepted (p .tells) (few .0) (omega arith) (few .1)
+  took kept l (passes _) (inr p) = few-refused (p .stops .tells)
+
+  checked : (c : Course) → FewAfter (stepChecked c s is qs area)
+  checked (Refused why) = λ p. few-refused (p .0)
+  checked Open =
+      by-test FewAfter (sound s)
+      (λ is-sound. by-test FewAfter (ltb (s .seen) (symbolsFor (s .mode) (s .size) (s .scheme)))
+      (λ few. by-test FewAfter (room subCarriers is qs && leb (s .size) (length area))
+      (λ _. took (sound-kept s is-sound) (ltb-true (s .seen) (symbolsFor (s .mode) (s .size) (s .scheme)) few) (pointsCheckedB 1 (s .scheme) is qs))
+      (λ _ p. few-refused (p .0)))
+      (λ _ p. few-refused (p .0)))
+      (λ _ p. few-refused (p .0))
+
+  pub few-stepped : SteppingB s is qs area answer s' area' → Few 8528 0 8 (ofReceivedB answer)
+  few-stepped = checked (s .course)

@@ -1,2 +1,4 @@
 pub mod Counts
+pub mod Holds
+pub mod Holdings
 pub mod Once

@@ -1,19 +1,24 @@
--- Each exported call has one answer and one memory, for every code or mode number, word, frame, scheme, grid and lent list.
+-- Each exported call has one answer and one memory, for every code or mode number, word, frame, scheme, grid, stream and lent list.
 -- Assumes nothing.
 use mathlib.Core.Path.{_≡_, sym, ap, _∙_}
+use mathlib.Core.Logic.{inl, inr}
 use mathlib.Core.List.{List}
 use Prim.Native.Nat.{ℕ}
 use lib.IntN.{ℤ}
 use Rattle.bch.proofs.Once.{encode-once, decode-once}
 use Rattle.payload_a.proofs.OnceA.{send-a-once, receive-a-once}
 use Rattle.payload_b.proofs.OnceB.{send-b-once, receive-b-once}
+use Rattle.payload_b.proofs.OnceStream.{open-once, step-once}
 use Rattle.answers.specs.Answers.{ofWritten, ofDecoded, ofReceivedA, ofReceivedB}
 use Rattle.answers.specs.declared.Written.{Written}
 use Rattle.answers.specs.declared.DecodedWord.{DecodedWord}
 use Rattle.answers.specs.declared.ReceivedBurst.{ReceivedBurst}
 use Rattle.answers.specs.declared.ReceivedB.{ReceivedB}
 use Rattle.bridge.specs.Calls.{answerOf, receivedOf}
-use Rattle.bridge.specs.Calls.{EncodeCall, DecodeCall, SendACall, ReceiveACall, SendBCall, ReceiveBCall, SymbolsBCall}
+use Rattle.payload_b.specs.declared.stream.State.{State}
+use Rattle.payload_b.specs.Courses.{toldOf}
+use Rattle.bridge.specs.Streams.{lentOf, stateOf}
+use Rattle.bridge.specs.Calls.{EncodeCall, DecodeCall, SendACall, ReceiveACall, SendBCall, ReceiveBCall, SymbolsBCall, OpenBCall, StepBCall}
 use Rattle.bridge.specs.declared.Answer.{Answer}
 use Rattle.bridge.specs.declared.Received.{Received}
 use Rattle.bridge.specs.declared.Needed.{Needed}
@@ -63,3 +68,19 @@ module _ {mode size : ℕ} {scheme : List ℕ} {is qs : List ℤ} {area : List �
 
 pub symbols-b-call-once : (mode size : ℕ) (scheme : List ℕ) {r s : Needed} → SymbolsBCall mode size scheme r → SymbolsBCall mode size scheme s → r ≡ s
 symbols-b-call-once mode size scheme p q = p ∙ sym q
+
+module _ {mode size : ℕ} {scheme : List ℕ} {r s : Answer} {u v : List ℕ} where
+  pub open-b-call-once : OpenBCall mode size scheme r u → OpenBCall mode size scheme s v → (r ≡ s) × (u ≡ v)
+  open-b-call-once p q =
+      let same = open-once mode size scheme (p .state) (q .state) (p .promise) (q .promise) in
+      (p .told ∙ ap (λ (t : State). answerOf (toldOf (t .course))) same ∙ sym (q .told), p .left ∙ ap lentOf same ∙ sym (q .left))
+
+module _ {stream : List ℕ} {is qs : List ℤ} {area : List ℕ} {r s : Received} {stream1 area1 stream2 area2 : List ℕ} where
+  pub step-b-call-once : StepBCall stream is qs area r stream1 area1 → StepBCall stream is qs area s stream2 area2
+      → (r ≡ s) × (stream1 ≡ stream2) × (area1 ≡ area2)
+  step-b-call-once (inl p) (inl q) =
+      let same = step-once (stateOf stream) is qs area (p .answer) (q .answer) (p .state) (q .state) area1 area2 (p .promise) (q .promise) in
+      (p .told ∙ ap (λ (a : ReceivedB). receivedOf (ofReceivedB a)) (same .0) ∙ sym (q .told), p .left ∙ ap lentOf (same .1) ∙ sym (q .left), same .2)
+  step-b-call-once (inl p) (inr q) = absurd (q .holds-none (p .holds))
+  step-b-call-once (inr p) (inl q) = absurd (p .holds-none (q .holds))
+  step-b-call-once (inr p) (inr q) = (p .told ∙ sym (q .told), p .stream-left ∙ sym (q .stream-left), p .area-left ∙ sym (q .area-left))

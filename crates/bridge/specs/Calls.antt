@@ -1,10 +1,11 @@
 -- What an exported call promises: the promise of the codes or of a payload, and what the answer tells as a caller in C reads it.
 -- Assumes nothing.
 use mathlib.Core.Path.{_≡_}
+use mathlib.Core.Logic.{_⊎_, _≢_}
 use mathlib.Core.List.{List}
 use Prim.Native.Nat.{ℕ}
 use lib.IntN.{ℤ}
-use Rattle.answers.specs.Answers.{ofWritten, ofDecoded, ofReceivedA, ofReceivedB}
+use Rattle.answers.specs.Answers.{refused, ofWritten, ofDecoded, ofReceivedA, ofReceivedB}
 use Rattle.answers.specs.Checks.{Checked, fails, passes}
 use Rattle.answers.specs.declared.Told.{Told}
 use Rattle.answers.specs.declared.Written.{Written}
@@ -15,6 +16,10 @@ use Rattle.bch.specs.Promise.{Encoding, Decoding}
 use Rattle.payload_a.specs.PromiseA.{SendingA, ReceivingA}
 use Rattle.payload_b.specs.CodedB.{symbolsFor}
 use Rattle.payload_b.specs.PromiseB.{planned, SendingB, ReceivingB}
+use Rattle.payload_b.specs.StreamB.{OpeningB, SteppingB}
+use Rattle.payload_b.specs.declared.stream.State.{State}
+use Rattle.payload_b.specs.Courses.{toldOf}
+use Rattle.bridge.specs.Streams.{lentOf, stateOf}
 use Rattle.bridge.specs.declared.Answer.{Answer}
 use Rattle.bridge.specs.declared.Received.{Received}
 use Rattle.bridge.specs.declared.Needed.{Needed}
@@ -74,3 +79,31 @@ pub record ReceiveBCall (mode size : ℕ) (scheme : List ℕ) (is qs : List ℤ)
 -- ortkaveq_symbols_b(mode, size, scheme): the checks with which send B and receive B begin, and no others
 abbrev pub SymbolsBCall : ℕ → ℕ → List ℕ → Needed → Type 0
 SymbolsBCall mode size scheme r = r ≡ neededOf (planned mode size scheme (passes tt)) (symbolsFor mode size scheme)
+
+-- ortkaveq_open_b(mode, size, scheme, stream): the answer, and `stream` after, in which the first step finds that state
+pub record OpenBCall (mode size : ℕ) (scheme : List ℕ) (r : Answer) (stream : List ℕ) : Type 0 where
+  pub state : State
+  pub promise : OpeningB mode size scheme state
+  pub told : r ≡ answerOf (toldOf (state .course))
+  pub left : stream ≡ lentOf state
+  pub found : stateOf stream ≡ state
+
+-- ortkaveq_step_b(stream, i, q, area): the answer, and `stream`, in which the next step finds that state, and `area` after, where `stream` holds a state before
+pub record StepsOn (stream : List ℕ) (is qs : List ℤ) (area : List ℕ) (r : Received) (stream' area' : List ℕ) : Type 0 where
+  pub holds : stream ≡ lentOf (stateOf stream)
+  pub answer : ReceivedB
+  pub state : State
+  pub promise : SteppingB (stateOf stream) is qs area answer state area'
+  pub told : r ≡ receivedOf (ofReceivedB answer)
+  pub left : stream' ≡ lentOf state
+  pub found : stateOf stream' ≡ state
+
+-- and where it holds none: number 16, and nothing is changed
+pub record StepsNot (stream area : List ℕ) (r : Received) (stream' area' : List ℕ) : Type 0 where
+  pub holds-none : stream ≢ lentOf (stateOf stream)
+  pub told : r ≡ receivedOf (refused 16 0)
+  pub stream-left : stream' ≡ stream
+  pub area-left : area' ≡ area
+
+abbrev pub StepBCall : List ℕ → List ℤ → List ℤ → List ℕ → Received → List ℕ → List ℕ → Type 0
+StepBCall stream is qs area r stream' area' = StepsOn stream is qs area r stream' area' ⊎ StepsNot stream area r stream' area'

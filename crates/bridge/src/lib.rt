@@ -3,8 +3,14 @@
 ghost use mathlib.Core.Path.{_≡_};
 ghost use Prim.Native.Nat.{_^_, _<_};
 ghost use Rattle.bridge.specs.Calls.{answerOf, receivedOf, EncodeCall, DecodeCall, SendACall, ReceiveACall, SendBCall, ReceiveBCall, SymbolsBCall};
+ghost use Rattle.bridge.specs.Calls.{OpenBCall, StepBCall};
+
+mod lent;
+
 use answers::PLACES;
+use answers::Refusal;
 use answers::Told;
+use lent::BYTES;
 use payload_b::plan;
 use payload_b::plan::Verdict;
 
@@ -129,6 +135,47 @@ pub extern "C" fn ortkaveq_symbols_b(mode: u8, size: usize, scheme: &[u8]) -> Ne
         Verdict::Passes(plan) => so_many(plan.symbols as u32),
         Verdict::Fails(why) => none_needed(answers::of_refusal(why)),
     }
+}
+
+// Opens a stream of Payload B for a frame of so many bytes: writes its state to the 352 bytes of stream.
+#[no_mangle]
+pub extern "C" fn ortkaveq_open_b(
+    mode: u8,
+    size: usize,
+    scheme: &[u8],
+    stream: &mut [u8; BYTES],
+) -> Answer
+    ensures { λ r. ⌜ OpenBCall mode size (now (scheme .entry)) r (now (stream .exit)) ⌝ }
+{
+    let state = receiver_b::open_b(mode, size, scheme);
+    let course = state.course;
+    let bytes = lent::holding(state);
+    *stream = bytes;
+    answer_of(payload_b::stream::told(course))
+}
+
+// Receives the next OFDM symbol of a stream, 256 elements of I and of Q: writes the bytes of the blocks that are complete by it to their place in the area, and
+// the state after it to stream.
+#[no_mangle]
+pub extern "C" fn ortkaveq_step_b(
+    stream: &mut [u8; BYTES],
+    i: &[i16],
+    q: &[i16],
+    area: &mut [u8],
+) -> Received
+    ensures { λ r. ⌜ StepBCall (now (stream .entry)) (now (i .entry)) (now (q .entry)) (now (area .entry)) r (now (stream .exit)) (now (area .exit)) ⌝ }
+{
+    let before = *stream;
+    let state = lent::held(before);
+    if !lent::holds(before, state) {
+        return all_told(answers::of_refusal(Refusal::Forged));
+    }
+    let stepped = receiver_b::step_b(state, i, q, area);
+    let answer = stepped.answer;
+    let after = stepped.state;
+    let bytes = lent::holding(after);
+    *stream = bytes;
+    all_told(answers::of_received_b(answer))
 }
 
 // What an answer tells, with one count.

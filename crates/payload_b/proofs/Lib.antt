@@ -15,3 +15,4 @@ pub mod TripsB
 pub mod GivenB
 pub mod GivenFlips
 pub mod GivenStates
+pub mod Courses

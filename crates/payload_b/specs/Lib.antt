@@ -3,3 +3,4 @@ pub mod PromiseB
 pub mod PlanB
 pub mod StreamB
 pub mod StreamedB
+pub mod Courses

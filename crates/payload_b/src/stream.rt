@@ -3,10 +3,13 @@
 ghost use mathlib.Core.Path.{_≡_};
 ghost use Rattle.payload_b.specs.PromiseB.{mendsB};
 ghost use Rattle.payload_b.specs.StreamB.{Judges};
+ghost use Rattle.payload_b.specs.Courses.{toldOf, courseOf};
 use crate::plan;
 use crate::plan::Plan;
 use crate::plan::Verdict;
 use answers::Refusal;
+use answers::Told;
+use answers::Written;
 use payload::ahead;
 use symbols::grid::POINTS;
 
@@ -86,4 +89,24 @@ pub fn judged(s: State) -> Found
         return Found::Forged;
     }
     Found::Sound(Stage { plan, done })
+}
+
+// What a course tells: 0 where it is open.
+pub fn told(course: Course) -> Told
+    ensures { λ r. ⌜ r ≡ toldOf course ⌝ }
+{
+    match course {
+        Course::Open => answers::of_written(Written::Accepted),
+        Course::Refused(why) => answers::of_refusal(why),
+    }
+}
+
+// The course that a number and a place tell; of a number that no course has, that of a forged state.
+pub fn course_of(number: u64, place: usize) -> Course
+    ensures { λ r. ⌜ r ≡ courseOf number place ⌝ }
+{
+    if number == 0 {
+        return Course::Open;
+    }
+    Course::Refused(answers::refusal_of(number, place))
 }

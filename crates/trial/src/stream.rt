@@ -5,14 +5,13 @@
 ghost use mathlib.Core.Path.{_≡_};
 ghost use Prim.Native.Nat.{_≤_};
 ghost use lib.ListN.{length};
-ghost use Rattle.trial.specs.Courses.{ofCourse, Says, Names};
+ghost use Rattle.trial.specs.Courses.{Says};
 use crate::input;
 use crate::input::Byte;
 use crate::output;
 use answers::ReceivedB;
 use answers::Refusal;
-use answers::Told;
-use answers::Written;
+use payload_b::stream;
 use payload_b::stream::Course;
 use payload_b::stream::State;
 use symbols::grid::POINTS;
@@ -110,7 +109,7 @@ fn open(
 ) -> bool {
     let opened = receiver_b::open_b(mode, size, scheme);
     let course = opened.course;
-    output::write_answer(told(course)) && call_all(calls, opened, i, q, area)
+    output::write_answer(stream::told(course)) && call_all(calls, opened, i, q, area)
 }
 
 // The calls of job 9, each read, made and answered before the next.
@@ -181,22 +180,12 @@ fn write_received(answer: ReceivedB) -> bool {
         && output::write_count(told.worst)
 }
 
-// The number and the place of a stream's refusal; of an open one both are 0.
-fn told(course: Course) -> Told
-    ensures { λ r. ⌜ r ≡ ofCourse course ⌝ }
-{
-    match course {
-        Course::Open => answers::of_written(Written::Accepted),
-        Course::Refused(why) => answers::of_refusal(why),
-    }
-}
-
 // The course that tells this number and place, if there is one.
 fn course_of(number: u8, place: usize) -> Said
     ensures { λ r. ⌜ Says number place r ⌝ }
 {
-    let course = named(number, place);
-    let tells = told(course);
+    let course = stream::course_of(number as u64, place);
+    let tells = stream::told(course);
     if tells.number != number {
         return Said::Nothing;
     }
@@ -204,27 +193,6 @@ fn course_of(number: u8, place: usize) -> Said
         return Said::Nothing;
     }
     Said::Of(course)
-}
-
-// The only course that can tell this number and place.
-fn named(number: u8, place: usize) -> Course
-    ensures { λ r. ⌜ Names number place r ⌝ }
-{
-    match number {
-        0 => Course::Open,
-        1 => Course::Refused(Refusal::Unknown),
-        2 => Course::Refused(Refusal::WrongLength),
-        3 => Course::Refused(Refusal::NoRoom),
-        4 => Course::Refused(Refusal::NotABit(place)),
-        5 => Course::Refused(Refusal::BadScheme(place)),
-        6 => Course::Refused(Refusal::TooManySymbols),
-        7 => Course::Refused(Refusal::Occupied(place)),
-        8 => Course::Refused(Refusal::StrayPoint(place)),
-        9 => Course::Refused(Refusal::Uncorrectable(place)),
-        10 => Course::Refused(Refusal::WrongCheck),
-        11 => Course::Refused(Refusal::Noise),
-        _ => Course::Refused(Refusal::Forged),
-    }
 }
 
 // The state of these bytes, but for number and place.
@@ -300,7 +268,7 @@ fn write_state(s: State) -> bool {
         && output::write_register(s.register)
         && output::write_count(s.mended)
         && output::write_count(s.worst)
-        && output::write_answer(told(course))
+        && output::write_answer(stream::told(course))
 }
 
 // The words of a block, in eight bytes each.
