@@ -8,8 +8,8 @@ use native.Mathlib.Nat.{div-eq-of-lt, add-mul-div-left}
 use native.Mathlib.Numerals.{towards-suc}
 use native.Mathlib.Omega.{arith}
 use lib.ListN.{length, getD, set, take, drop, length-append, length-drop, List·getD-append}
-use lib.Seq.{length-take-le, sets, sets-eq, take-at, take-suc, take-add, getD-drop, getD-append-add, getD-append-seam}
-use Rattle.bridge.specs.Streams.{each, octets, spread, numberAt}
+use lib.Seq.{sets, sets-eq, take-at, drop-at, drop-drop, take-suc, take-add, getD-drop, getD-append-add, getD-append-seam}
+use Rattle.bridge.specs.Streams.{each, octets, spread, FourBytes, numberAt}
 
 -- ---- by index
 
@@ -90,13 +90,13 @@ module _ (a0 a1 a2 a3 a4 a5 a6 a7 : ℕ) (l0 : a0 < 256) (l1 : a1 < 256) (l2 : a
       part 0x100000000000000 (low + 0x100000000 * (a4 + 256 * (a5 + 256 * a6))) a7 0 (omega arith) l7 (omega arith) in
       rw (e0, e1, e2, e3, e4, e5, e6, e7) refl
 
-octets-at : (bytes : List ℕ) (at : ℕ) → at + 8 ≤ length bytes → ((k : ℕ) → getD bytes k 0 < 256) → octets (numberAt bytes at) ≡ take 8 (drop at bytes)
-octets-at bytes at l small =
+pub octets-at : (bytes : List ℕ) (at : ℕ) → at + 8 ≤ length bytes → FourBytes bytes at → FourBytes bytes (at + 4)
+    → octets (numberAt bytes at) ≡ take 8 (drop at bytes)
+octets-at bytes at l low high =
     let one : (i j : ℕ) → j ≡ at + i → getD bytes j 0 ≡ getD (drop at bytes) i 0 =
     λ i j e. ap (λ (k : ℕ). getD bytes k 0) e ∙ sym (getD-drop at bytes i 0) in
     octets-of (getD bytes at 0) (getD bytes (at + 1) 0) (getD bytes (at + 2) 0) (getD bytes (at + 3) 0) (getD bytes (at + 4) 0)
-    (getD bytes (at + 4 + 1) 0) (getD bytes (at + 4 + 2) 0) (getD bytes (at + 4 + 3) 0) (small at) (small (at + 1)) (small (at + 2)) (small (at + 3))
-    (small (at + 4)) (small (at + 4 + 1)) (small (at + 4 + 2)) (small (at + 4 + 3))
+    (getD bytes (at + 4 + 1) 0) (getD bytes (at + 4 + 2) 0) (getD bytes (at + 4 + 3) 0) (low .0) (low .1) (low .2) (low .3) (high .0) (high .1) (high .2) (high .3)
     ∙ rw (
       one 0 at (omega arith),
       one 1 (at + 1) refl,
@@ -155,18 +155,12 @@ spread-same zero f g same = spread-none f ∙ sym (spread-none g)
 spread-same (suc n) f g same =
     rw (spread-suc n f, spread-suc n g, spread-same n f g (λ k l. same k (omega arith)), same n (omega arith)) refl
 
--- the bytes that the numbers were read from
-pub spread-of : (bytes : List ℕ) (n : ℕ) → 8 * n ≤ length bytes → ((k : ℕ) → getD bytes k 0 < 256) → spread n (λ k. numberAt bytes (8 * k)) ≡ take (8 * n) bytes
-spread-of bytes zero l small = spread-none (λ k. numberAt bytes (8 * k))
-spread-of bytes (suc n) l small =
+-- one number more, and the bytes that it was read from
+pub spread-next-of : (bytes : List ℕ) (n : ℕ) (f : ℕ → ℕ) → spread n f ≡ take (8 * n) bytes → octets (f n) ≡ take 8 (drop (8 * n) bytes)
+    → spread (suc n) f ≡ take (8 * suc n) bytes
+spread-next-of bytes n f before next =
     let e : 8 * suc n ≡ 8 * n + 8 = omega arith in
-    rw (
-      spread-suc n (λ k. numberAt bytes (8 * k)),
-      spread-of bytes n (omega arith) small,
-      e,
-      take-add (8 * n) 8 bytes,
-      octets-at bytes (8 * n) (omega arith) small,
-    ) refl
+    rw (spread-suc n f, before, next, e, take-add (8 * n) 8 bytes) refl
 
 -- the number that was written there
 spread-next : (n : ℕ) (f : ℕ → ℕ) (ys : List ℕ) (k : ℕ) → k < suc n → f n < 2 ^ 64
@@ -186,6 +180,24 @@ pub spread-at : (n : ℕ) (f : ℕ → ℕ) (ys : List ℕ) (k : ℕ) → k < n 
 spread-at zero f ys k l small = absurd (omega arith)
 spread-at (suc n) f ys k l small = spread-next n f ys k l (small n) (λ m. spread-at n f (octets (f n) ++ ys) k m small)
 
+-- one more of them, written over a list
+module _ (f : ℕ → ℕ) (before : List ℕ) (k : ℕ) where
+  abbrev spread-over : ℕ → List ℕ
+  spread-over n = spread n f ++ drop (8 * n) before
+
+  pub length-over : 8 * k ≤ length before → length (spread-over k) ≡ length before
+  length-over l = length-append (spread k f) (drop (8 * k) before) ∙ rw (length-spread k f, length-drop (8 * k) before) (omega arith)
+
+  pub spread-more : take (8 * k) (spread-over k) ++ (octets (f k) ++ drop (8 * k + 8) (spread-over k)) ≡ spread-over (suc k)
+  spread-more =
+      let front : take (8 * k) (spread-over k) ≡ spread k f = take-at (spread k f) (drop (8 * k) before) (8 * k) (length-spread k f) in
+      let end : 8 * k + 8 ≡ 8 * suc k = omega arith in
+      let back : drop (8 * k + 8) (spread-over k) ≡ drop (8 * suc k) before =
+      sym (drop-drop 8 (8 * k) (spread-over k))
+      ∙ ap (drop 8) (drop-at (spread k f) (drop (8 * k) before) (8 * k) (length-spread k f)) ∙ drop-drop 8 (8 * k) before
+      ∙ ap (λ (n : ℕ). drop n before) end in
+      rw (front, back, spread-suc k f) (sym (append-assoc (spread k f) (octets (f k)) (drop (8 * suc k) before)))
+
 -- ---- eight bytes written one behind the other
 
 module _ (out : List ℕ) (at a0 a1 a2 a3 a4 a5 a6 a7 : ℕ) where
@@ -193,12 +205,9 @@ module _ (out : List ℕ) (at a0 a1 a2 a3 a4 a5 a6 a7 : ℕ) where
   eight = a0 ∷ a1 ∷ a2 ∷ a3 ∷ a4 ∷ a5 ∷ a6 ∷ a7 ∷ []
 
   pub eight-put : at + 7 < length out
-      → take (at + 8)
-      (set (set (set (set (set (set (set (set out at a0) (at + 1) a1) (at + 2) a2) (at + 3) a3) (at + 4) a4) (at + 5) a5) (at + 6) a6) (at + 7) a7)
-      ≡ take at out ++ eight
+      → set (set (set (set (set (set (set (set out at a0) (at + 1) a1) (at + 2) a2) (at + 3) a3) (at + 4) a4) (at + 5) a5) (at + 6) a6) (at + 7) a7
+      ≡ take at out ++ (eight ++ drop (at + 8) out)
   eight-put l =
-      let long : length (take at out ++ eight) ≡ at + 8 =
-      length-append (take at out) eight ∙ ap (λ (n : ℕ). n + 8) (length-take-le at out (omega arith)) in
-      let put : take (at + 8) (sets out at eight) ≡ take at out ++ eight =
-      ap (take (at + 8)) (sets-eq eight out at (omega arith)) ∙ take-at (take at out ++ eight) (drop (at + 8) out) (at + 8) long in
+      let put : sets out at eight ≡ take at out ++ (eight ++ drop (at + 8) out) =
+      sets-eq eight out at (omega arith) ∙ append-assoc (take at out) eight (drop (at + 8) out) in
       simp towards-suc (simp towards-suc at put)

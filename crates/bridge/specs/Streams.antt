@@ -4,10 +4,12 @@ use mathlib.Core.Path.{_≡_}
 use mathlib.Core.Logic.{_≢_}
 use mathlib.Core.Bool.{Bool, true, false}
 use mathlib.Core.List.{List, [], _∷_, _++_}
-use Prim.Native.Nat.{ℕ, zero, suc, _+_, _*_, _/_, _%_}
-use lib.ListN.{getD, take, drop, replicate}
+use Prim.Native.Nat.{ℕ, zero, suc, _+_, _*_, _/_, _%_, _<_}
+use lib.ListN.{length, getD, take, drop, replicate}
 use Rattle.symbols.specs.Grid.{symbolPoints}
+use Rattle.payload_b.specs.StreamB.{withScheme, moving}
 use Rattle.payload_b.specs.declared.stream.State.{State}
+use Rattle.payload_b.specs.declared.stream.Moving.{Moving}
 use Rattle.payload_b.specs.Courses.{toldOf, courseOf}
 
 -- n elements, each by its index
@@ -32,6 +34,10 @@ unfoldable pub spread : ℕ → (ℕ → ℕ) → List ℕ
 spread zero f = []
 spread (suc n) f = spread n f ++ octets (f n)
 
+-- four elements from this one on are bytes
+abbrev pub FourBytes : List ℕ → ℕ → Type 0
+FourBytes bytes at = (getD bytes at 0 < 256) × (getD bytes (at + 1) 0 < 256) × (getD bytes (at + 2) 0 < 256) × (getD bytes (at + 3) 0 < 256)
+
 -- the number of four bytes from this one on, and of eight
 abbrev pub fourAt : List ℕ → ℕ → ℕ
 fourAt bytes at = getD bytes at 0 + 256 * (getD bytes (at + 1) 0 + 256 * (getD bytes (at + 2) 0 + 256 * getD bytes (at + 3) 0))
@@ -41,31 +47,40 @@ numberAt bytes at = fourAt bytes at + 0x100000000 * fourAt bytes (at + 4)
 
 -- ---- the state: seventeen numbers, of which eight are the unfinished block; the scheme; and six zeros
 
-abbrev pub nineOf : State → List ℕ
-nineOf s =
-    s .count ∷ s .size ∷ s .seen ∷ s .mended ∷ s .worst ∷ toldOf (s .course) .place ∷ toldOf (s .course) .number ∷ s .register ∷ s .mode ∷ []
+abbrev pub nineOf : Moving → List ℕ
+nineOf m =
+    m .count ∷ m .size ∷ m .seen ∷ m .mended ∷ m .worst ∷ toldOf (m .course) .place ∷ toldOf (m .course) .number ∷ m .register ∷ m .mode ∷ []
 
-abbrev pub numbersOf : State → List ℕ
-numbersOf s = s .block ++ nineOf s
+abbrev pub numbersOf : Moving → List ℕ
+numbersOf m = m .block ++ nineOf m
+
+-- what is known of every value of the type
+pub record Formed (m : Moving) : Type 0 where
+  pub block-long : length (m .block) ≡ 8
+  pub register : m .register < 65536
+  pub mode : m .mode < 256
 
 abbrev pub lentOf : State → List ℕ
-lentOf s = spread 17 (λ k. getD (numbersOf s) k 0) ++ (s .scheme ++ replicate 6 0)
+lentOf s = spread 17 (λ k. getD (numbersOf (moving s)) k 0) ++ (s .scheme ++ replicate 6 0)
 
 -- the numbers in 352 bytes
 abbrev pub numbersIn : List ℕ → List ℕ
 numbersIn bytes = each 17 (λ k. numberAt bytes (8 * k))
 
--- the state that they hold, if they hold one: then it is held in just this way
-abbrev pub stateOf : List ℕ → State
-stateOf bytes = record {
-  scheme = take symbolPoints (drop 136 bytes);
-  block = take 8 (numbersIn bytes);
-  count = getD (numbersIn bytes) 8 0;
-  mode = getD (numbersIn bytes) 16 0 % 256;
-  size = getD (numbersIn bytes) 9 0;
-  seen = getD (numbersIn bytes) 10 0;
-  register = getD (numbersIn bytes) 15 0 % 65536;
-  mended = getD (numbersIn bytes) 11 0;
-  worst = getD (numbersIn bytes) 12 0;
-  course = courseOf (getD (numbersIn bytes) 14 0) (getD (numbersIn bytes) 13 0);
+-- what moves of a state, by its numbers
+abbrev pub movingIn : List ℕ → Moving
+movingIn numbers = record {
+  block = take 8 numbers;
+  count = getD numbers 8 0;
+  mode = getD numbers 16 0 % 256;
+  size = getD numbers 9 0;
+  seen = getD numbers 10 0;
+  register = getD numbers 15 0 % 65536;
+  mended = getD numbers 11 0;
+  worst = getD numbers 12 0;
+  course = courseOf (getD numbers 14 0) (getD numbers 13 0);
 }
+
+-- the state that bytes hold, if they hold one: then it is held in just this way
+abbrev pub stateOf : List ℕ → State
+stateOf bytes = withScheme (take symbolPoints (drop 136 bytes)) (movingIn (numbersIn bytes))

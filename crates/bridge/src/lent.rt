@@ -3,11 +3,12 @@
 // byte an entry, and six zeros.
 ghost use mathlib.Core.Path.{_≡_};
 ghost use mathlib.Core.List.{_++_};
-ghost use Prim.Native.Nat.{_+_, _^_, _<_};
+ghost use Prim.Native.Nat.{_+_, _≤_, _<_};
 ghost use lib.ListN.{length, getD, take, drop, replicate};
 ghost use Rattle.symbols.specs.Grid.{symbolPoints};
-ghost use Rattle.bridge.specs.Streams.{Same, octets, spread, fourAt, numberAt, numbersIn, numbersOf, lentOf, stateOf};
+ghost use Rattle.bridge.specs.Streams.{Same, octets, spread, FourBytes, fourAt, numberAt, numbersIn, numbersOf, Formed, movingIn, lentOf, stateOf};
 use payload_b::stream;
+use payload_b::stream::Moving;
 use payload_b::stream::State;
 use symbols::grid::POINTS;
 
@@ -16,16 +17,16 @@ pub(crate) const BYTES: usize = 352;
 
 const NUMBERS: usize = 17;
 
-const SCHEME: usize = 136;
+pub(crate) const SCHEME: usize = 136;
 
-const ZEROS: usize = 346;
+pub(crate) const ZEROS: usize = 346;
 
 // The bytes that hold a state: it is the one that is found there.
 pub(crate) fn holding(state: State) -> [u8; BYTES]
     ensures { λ r. ⌜ (r ≡ lentOf state) × (stateOf r ≡ state) ⌝ }
 {
-    let numbers = numbers_of(state);
     let scheme = state.scheme;
+    let numbers = numbers_of(stream::without_scheme(state));
     let mut out = [0u8; BYTES];
     put_numbers(&numbers, &mut out);
     put_scheme(&scheme, &mut out);
@@ -33,10 +34,10 @@ pub(crate) fn holding(state: State) -> [u8; BYTES]
     out
 }
 
-// Writes the numbers.
-fn put_numbers(numbers: &[u64; NUMBERS], out: &mut [u8; BYTES])
+// Writes the numbers: what is behind them is left as it is.
+pub(crate) fn put_numbers(numbers: &[u64; NUMBERS], out: &mut [u8; BYTES])
     requires { ⌜ length (now out) ≡ 352 ⌝ }
-    ensures { λ _. ⌜ (length (now (out .exit)) ≡ 352) × (take 136 (now (out .exit)) ≡ spread 17 (λ k. getD (now (numbers .entry)) k 0)) ⌝ }
+    ensures { λ _. ⌜ now (out .exit) ≡ spread 17 (λ k. getD (now (numbers .entry)) k 0) ++ drop 136 (now (out .entry)) ⌝ }
 {
     let mut k: usize = 0;
     while k < NUMBERS {
@@ -48,7 +49,7 @@ fn put_numbers(numbers: &[u64; NUMBERS], out: &mut [u8; BYTES])
 // Writes the eight bytes of a number.
 fn store(x: u64, out: &mut [u8; BYTES], at: usize)
     requires { ⌜ (length (now out) ≡ 352) × (at + 7 < 352) ⌝ }
-    ensures { λ _. ⌜ (length (now (out .exit)) ≡ 352) × (take (at + 8) (now (out .exit)) ≡ take at (now (out .entry)) ++ octets x) ⌝ }
+    ensures { λ _. ⌜ now (out .exit) ≡ take at (now (out .entry)) ++ (octets x ++ drop (at + 8) (now (out .entry))) ⌝ }
 {
     out[at] = (x % 256) as u8;
     out[at + 1] = (x / 0x100 % 256) as u8;
@@ -85,12 +86,12 @@ fn put_zeros(out: &mut [u8; BYTES])
     out[ZEROS + 5] = 0;
 }
 
-// The numbers of a state.
-fn numbers_of(state: State) -> [u64; NUMBERS]
-    ensures { λ r. ⌜ r ≡ numbersOf state ⌝ }
+// The numbers of what moves of a state.
+pub(crate) fn numbers_of(m: Moving) -> [u64; NUMBERS]
+    ensures { λ r. ⌜ (r ≡ numbersOf m) × Formed m ⌝ }
 {
-    let block = state.block;
-    let course = state.course;
+    let block = m.block;
+    let course = m.course;
     let told = stream::told(course);
     [
         block[0],
@@ -101,26 +102,23 @@ fn numbers_of(state: State) -> [u64; NUMBERS]
         block[5],
         block[6],
         block[7],
-        state.count as u64,
-        state.size as u64,
-        state.seen as u64,
-        state.mended as u64,
-        state.worst as u64,
+        m.count as u64,
+        m.size as u64,
+        m.seen as u64,
+        m.mended as u64,
+        m.worst as u64,
         told.place as u64,
         told.number as u64,
-        state.register as u64,
-        state.mode as u64,
+        m.register as u64,
+        m.mode as u64,
     ]
 }
 
-// The state that bytes hold, if they hold one.
-pub(crate) fn held(bytes: [u8; BYTES]) -> State
-    ensures { λ r. ⌜ r ≡ stateOf bytes ⌝ }
+// What moves of a state, by its numbers.
+pub(crate) fn held(n: [u64; NUMBERS]) -> Moving
+    ensures { λ r. ⌜ r ≡ movingIn n ⌝ }
 {
-    let n = numbers_in(&bytes);
-    let scheme = scheme_in(&bytes);
-    State {
-        scheme,
+    Moving {
         block: [n[0], n[1], n[2], n[3], n[4], n[5], n[6], n[7]],
         count: n[8] as usize,
         mode: (n[16] % 256) as u8,
@@ -134,8 +132,9 @@ pub(crate) fn held(bytes: [u8; BYTES]) -> State
 }
 
 // The numbers in bytes.
-fn numbers_in(bytes: &[u8; BYTES]) -> [u64; NUMBERS]
-    ensures { λ r. ⌜ r ≡ numbersIn (now (bytes .entry)) ⌝ }
+pub(crate) fn numbers_in(bytes: &[u8]) -> [u64; NUMBERS]
+    requires { ⌜ length (now bytes) ≡ 352 ⌝ }
+    ensures { λ r. ⌜ (r ≡ numbersIn (now (bytes .entry))) × (spread 17 (λ k. getD r k 0) ≡ take 136 (now (bytes .entry))) ⌝ }
 {
     let mut out = [0u64; NUMBERS];
     let mut k: usize = 0;
@@ -147,9 +146,9 @@ fn numbers_in(bytes: &[u8; BYTES]) -> [u64; NUMBERS]
 }
 
 // The number of eight bytes, the first one the lowest.
-fn number(bytes: &[u8; BYTES], at: usize) -> u64
-    requires { ⌜ at + 7 < 352 ⌝ }
-    ensures { λ r. ⌜ r ≡ numberAt (now (bytes .entry)) at ⌝ }
+fn number(bytes: &[u8], at: usize) -> u64
+    requires { ⌜ at + 8 ≤ length (now bytes) ⌝ }
+    ensures { λ r. ⌜ (r ≡ numberAt (now (bytes .entry)) at) × (octets r ≡ take 8 (drop at (now (bytes .entry)))) ⌝ }
 {
     let low = four(bytes, at);
     let high = four(bytes, at + 4);
@@ -157,9 +156,9 @@ fn number(bytes: &[u8; BYTES], at: usize) -> u64
 }
 
 // The number of four.
-fn four(bytes: &[u8; BYTES], at: usize) -> u64
-    requires { ⌜ at + 3 < 352 ⌝ }
-    ensures { λ r. ⌜ (r ≡ fourAt (now (bytes .entry)) at) × (r < 2 ^ 32) ⌝ }
+fn four(bytes: &[u8], at: usize) -> u64
+    requires { ⌜ at + 4 ≤ length (now bytes) ⌝ }
+    ensures { λ r. ⌜ (r ≡ fourAt (now (bytes .entry)) at) × FourBytes (now (bytes .entry)) at ⌝ }
 {
     let a = wide(bytes[at]);
     let b = wide(bytes[at + 1]);
@@ -174,38 +173,23 @@ fn wide(x: u8) -> u64
     x as u64
 }
 
-// The scheme in bytes.
-fn scheme_in(bytes: &[u8; BYTES]) -> [u8; POINTS]
-    requires { ⌜ length (now bytes) ≡ 352 ⌝ }
-    ensures { λ r. ⌜ r ≡ take symbolPoints (drop 136 (now (bytes .entry))) ⌝ }
+// Whether bytes hold the state that is found there, by their numbers and what moves.
+pub(crate) fn holds(bytes: &[u8], n: [u64; NUMBERS], m: Moving) -> bool
+    requires { ⌜ (length (now bytes) ≡ 352) × (n ≡ numbersIn (now bytes)) × (spread 17 (λ k. getD n k 0) ≡ take 136 (now bytes)) × (m ≡ movingIn n) ⌝ }
+    ensures { λ r. ⌜ Same r (now (bytes .entry)) (lentOf (stateOf (now (bytes .entry)))) ⌝ }
 {
-    let mut out = [0u8; POINTS];
-    let mut k: usize = 0;
-    while k < POINTS {
-        out[k] = bytes[SCHEME + k];
-        k += 1;
-    }
-    out
-}
-
-// Whether bytes hold the state that is found there.
-pub(crate) fn holds(bytes: [u8; BYTES], state: State) -> bool
-    requires { ⌜ state ≡ stateOf bytes ⌝ }
-    ensures { λ r. ⌜ Same r bytes (lentOf state) ⌝ }
-{
-    let found = numbers_in(&bytes);
-    let own = numbers_of(state);
-    if !same(found, own) {
+    if !same(n, numbers_of(m)) {
         return false;
     }
-    zeros(&bytes)
+    zeros(bytes)
 }
 
-// Whether numbers are the same.
+// Whether numbers are the same, the first thirteen of which are: a refusal's place and number, register and mode can be others.
 fn same(v: [u64; NUMBERS], w: [u64; NUMBERS]) -> bool
+    requires { ⌜ take 13 v ≡ take 13 w ⌝ }
     ensures { λ r. ⌜ Same r v w ⌝ }
 {
-    let mut k: usize = 0;
+    let mut k: usize = 13;
     while k < NUMBERS {
         if v[k] != w[k] {
             return false;
@@ -216,7 +200,7 @@ fn same(v: [u64; NUMBERS], w: [u64; NUMBERS]) -> bool
 }
 
 // Whether there are zeros behind the scheme.
-fn zeros(bytes: &[u8; BYTES]) -> bool
+fn zeros(bytes: &[u8]) -> bool
     requires { ⌜ length (now bytes) ≡ 352 ⌝ }
     ensures { λ r. ⌜ Same r (drop 346 (now (bytes .entry))) (replicate 6 0) ⌝ }
 {

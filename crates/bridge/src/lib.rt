@@ -11,6 +11,8 @@ use answers::PLACES;
 use answers::Refusal;
 use answers::Told;
 use lent::BYTES;
+use lent::SCHEME;
+use lent::ZEROS;
 use payload_b::plan;
 use payload_b::plan::Verdict;
 
@@ -165,16 +167,16 @@ pub extern "C" fn ortkaveq_step_b(
 ) -> Received
     ensures { λ r. ⌜ StepBCall (now (stream .entry)) (now (i .entry)) (now (q .entry)) (now (area .entry)) r (now (stream .exit)) (now (area .exit)) ⌝ }
 {
-    let before = *stream;
-    let state = lent::held(before);
-    if !lent::holds(before, state) {
+    let bytes = &stream[..];
+    let numbers = lent::numbers_in(bytes);
+    let from = lent::held(numbers);
+    if !lent::holds(bytes, numbers, from) {
         return all_told(answers::of_refusal(Refusal::Forged));
     }
-    let stepped = receiver_b::step_b(state, i, q, area);
-    let answer = stepped.answer;
-    let after = stepped.state;
-    let bytes = lent::holding(after);
-    *stream = bytes;
+    let moved = receiver_b::step_lent(&bytes[SCHEME..ZEROS], from, i, q, area);
+    let answer = moved.answer;
+    let after = lent::numbers_of(moved.moving);
+    lent::put_numbers(&after, stream);
     all_told(answers::of_received_b(answer))
 }
 

@@ -24,11 +24,41 @@ use Rattle.payload_b.specs.CodedB.{blockBytes, blockBits, codeB, blocksI
 use Rattle.payload_b.specs.PromiseB.{planned, pointsCheckedB, mendsB, wireFrom}
 use Rattle.payload_b.specs.PlanB.{Sendable, planOf}
 use Rattle.payload_b.specs.declared.stream.State.{State}
+use Rattle.payload_b.specs.declared.stream.Moving.{Moving}
 use Rattle.payload_b.specs.declared.stream.Stage.{Stage}
 use Rattle.payload_b.specs.declared.stream.Course.{Course}
 use Rattle.payload_b.specs.declared.stream.Course.the-variants.{Open, Refused}
 use Rattle.payload_b.specs.declared.stream.Found.{Found}
 use Rattle.payload_b.specs.declared.stream.Found.the-variants.{Sound, Forged}
+
+-- ---- a state by its scheme, and what moves
+
+abbrev pub withScheme : List ℕ → Moving → State
+withScheme scheme m = record {
+  scheme = scheme;
+  block = m .block;
+  count = m .count;
+  mode = m .mode;
+  size = m .size;
+  seen = m .seen;
+  register = m .register;
+  mended = m .mended;
+  worst = m .worst;
+  course = m .course;
+}
+
+abbrev pub moving : State → Moving
+moving s = record {
+  block = s .block;
+  count = s .count;
+  mode = s .mode;
+  size = s .size;
+  seen = s .seen;
+  register = s .register;
+  mended = s .mended;
+  worst = s .worst;
+  course = s .course;
+}
 
 -- ---- how far a stream is
 

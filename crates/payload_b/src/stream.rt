@@ -2,7 +2,7 @@
 // and gets back, and any value may come in.
 ghost use mathlib.Core.Path.{_≡_};
 ghost use Rattle.payload_b.specs.PromiseB.{mendsB};
-ghost use Rattle.payload_b.specs.StreamB.{Judges};
+ghost use Rattle.payload_b.specs.StreamB.{withScheme, moving, Judges};
 ghost use Rattle.payload_b.specs.Courses.{toldOf, courseOf};
 use crate::plan;
 use crate::plan::Plan;
@@ -34,6 +34,58 @@ pub struct State {
     pub course: Course,
 }
 
+// What of a state moves on from step to step: all but the scheme, which can be lent.
+pub struct Moving {
+    pub block: [u64; 8],
+    pub count: usize,
+    pub mode: u8,
+    pub size: usize,
+    pub seen: usize,
+    pub register: u16,
+    pub mended: usize,
+    pub worst: usize,
+    pub course: Course,
+}
+
+// A state of a scheme and what moves.
+pub fn with_scheme(scheme: [u8; POINTS], m: Moving) -> State
+    ensures { λ r. ⌜ r ≡ withScheme scheme m ⌝ }
+{
+    let block = m.block;
+    let course = m.course;
+    State {
+        scheme,
+        block,
+        count: m.count,
+        mode: m.mode,
+        size: m.size,
+        seen: m.seen,
+        register: m.register,
+        mended: m.mended,
+        worst: m.worst,
+        course,
+    }
+}
+
+// What moves of a state.
+pub fn without_scheme(s: State) -> Moving
+    ensures { λ r. ⌜ r ≡ moving s ⌝ }
+{
+    let block = s.block;
+    let course = s.course;
+    Moving {
+        block,
+        count: s.count,
+        mode: s.mode,
+        size: s.size,
+        seen: s.seen,
+        register: s.register,
+        mended: s.mended,
+        worst: s.worst,
+        course,
+    }
+}
+
 // How far a state is: the plan of its frame, and the blocks that are done.
 pub struct Stage {
     pub plan: Plan,
@@ -56,11 +108,11 @@ fn mends(mode: u8) -> usize
     if mode == 1 { 4 } else { 8 }
 }
 
-// Whether an opening and steps can give a state that is open.
-pub fn judged(s: State) -> Found
-    ensures { λ r. ⌜ Judges s r ⌝ }
+// Whether an opening and steps can give a state that is open, of this scheme and what moves.
+pub fn judged(scheme: &[u8], s: Moving) -> Found
+    ensures { λ r. ⌜ Judges (withScheme (now (scheme .entry)) s) r ⌝ }
 {
-    let Verdict::Passes(plan) = plan::judged(s.mode, s.size, &s.scheme) else {
+    let Verdict::Passes(plan) = plan::judged(s.mode, s.size, scheme) else {
         return Found::Forged;
     };
     if plan.symbols < s.seen {

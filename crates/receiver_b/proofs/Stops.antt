@@ -1,7 +1,7 @@
 -- A stream that is stopped by a refusal, and the index at which 7 or 8 stops it.
 -- Assumes nothing.
 use mathlib.Core.Path.{_≡_, ap, _∙_}
-use mathlib.Core.List.{List, _++_}
+use mathlib.Core.List.{List, [], _++_}
 use Prim.Native.Nat.{ℕ, _<_}
 use native.Mathlib.Omega.{arith}
 use borrow.Author.Tests.{ltb-true}
@@ -18,13 +18,15 @@ use Rattle.symbols.specs.Grids.{received, firstOccupied}
 use Rattle.symbols.specs.Schemes.{repeated, strayIn}
 use Rattle.symbols.proofs.Indices.{index-lt}
 use Rattle.payload_b.specs.PromiseB.{pointsCheckedB}
-use Rattle.payload_b.specs.StreamB.{stopped, Stops}
-use Rattle.payload_b.specs.declared.stream.State.{State}
+use Rattle.payload_b.specs.StreamB.{withScheme, moving, stopped, Stops}
+use Rattle.payload_b.specs.declared.stream.Moving.{Moving}
 
 -- what is told, and what is left in state and area
-pub stops : {s s' : State} {area area' : List ℕ} {answer : ReceivedB} {number place : ℕ} (why : Refusal) → because why ≡ refused number place
-    → (answer ≡ Refused why) × (s' ≡ stopped why s) × (area' ≡ replicate (s .size) 0 ++ drop (s .size) area) → Stops number place s area answer s' area'
-stops why told e = record { why = why; told = told; tells = ap ofReceivedB (e .0) ∙ told; state = e .1; left = e .2 }
+pub stops : {scheme : List ℕ} {s s' : Moving} {area area' : List ℕ} {answer : ReceivedB} {number place : ℕ} (why : Refusal) → because why ≡ refused number place
+    → (answer ≡ Refused why) × (s' ≡ moving (stopped why (withScheme [] s))) × (area' ≡ replicate (s .size) 0 ++ drop (s .size) area)
+    → Stops number place (withScheme scheme s) area answer (withScheme scheme s') area'
+stops {scheme} why told e =
+    record { why = why; told = told; tells = ap ofReceivedB (e .0) ∙ told; state = ap (withScheme scheme) (e .1); left = e .2 }
 
 -- the index that a check tells
 abbrev pub index : Checked Unit → ℕ

@@ -1,15 +1,15 @@
-// One step of a stream: an OFDM symbol of a state that is open and sound.
+// One step of a stream: an OFDM symbol of a state that is open and sound. The scheme, which no step changes, is lent.
 ghost use mathlib.Core.Path.{_≡_};
-ghost use mathlib.Core.List.{_++_};
+ghost use mathlib.Core.List.{[], _++_};
 ghost use Prim.Native.Nat.{_≤_};
 ghost use lib.ListN.{length, drop, replicate};
 ghost use Rattle.answers.specs.declared.ReceivedB.the-variants.{Refused};
 ghost use Rattle.symbols.specs.Grid.{symbolPoints};
 ghost use Rattle.payload_b.specs.PromiseB.{pointsCheckedB};
-ghost use Rattle.payload_b.specs.StreamB.{fresh, stopped, stepChecked, Takes, Steps};
+ghost use Rattle.payload_b.specs.StreamB.{withScheme, moving, fresh, stopped, stepChecked, Takes, Steps};
 ghost use Rattle.payload_b.specs.declared.stream.Course.the-variants.{Open};
 ghost use Rattle.receiver_b.specs.Steps.{Staged, Next, Clean, Taking};
-use crate::Stepped;
+use crate::Moved;
 use crate::receiver;
 use crate::stream;
 use crate::stream::Stream;
@@ -18,8 +18,8 @@ use answers::ReceivedB;
 use answers::Refusal;
 use payload::scrambler;
 use payload_b::stream::Course;
+use payload_b::stream::Moving;
 use payload_b::stream::Stage;
-use payload_b::stream::State;
 use points::constellation;
 use symbols::Fault;
 use symbols::grid;
@@ -42,11 +42,10 @@ pub(crate) fn kept(scheme: &[u8]) -> [u8; POINTS]
 }
 
 // Nothing seen yet.
-pub(crate) fn fresh(mode: u8, size: usize, scheme: [u8; POINTS]) -> State
-    ensures { λ r. ⌜ r ≡ fresh mode size scheme ⌝ }
+pub(crate) fn unseen(mode: u8, size: usize) -> Moving
+    ensures { λ r. ⌜ r ≡ moving (fresh mode size []) ⌝ }
 {
-    State {
-        scheme,
+    Moving {
         block: [0u64; 8],
         count: 0,
         mode,
@@ -59,14 +58,12 @@ pub(crate) fn fresh(mode: u8, size: usize, scheme: [u8; POINTS]) -> State
     }
 }
 
-// A refusal is written into a state.
-pub(crate) fn stopped(why: Refusal, s: State) -> State
-    ensures { λ r. ⌜ r ≡ stopped why s ⌝ }
+// A refusal is written into what moves of a state.
+pub(crate) fn stopped(why: Refusal, s: Moving) -> Moving
+    ensures { λ r. ⌜ r ≡ moving (stopped why (withScheme [] s)) ⌝ }
 {
-    let scheme = s.scheme;
     let block = s.block;
-    State {
-        scheme,
+    Moving {
         block,
         count: s.count,
         mode: s.mode,
@@ -80,35 +77,34 @@ pub(crate) fn stopped(why: Refusal, s: State) -> State
 }
 
 // A refusal that changes nothing.
-pub(crate) fn unchanged(why: Refusal, s: State) -> Stepped
-    ensures { λ r. ⌜ (r .answer ≡ Refused why) × (r .state ≡ s) ⌝ }
+pub(crate) fn unchanged(why: Refusal, s: Moving) -> Moved
+    ensures { λ r. ⌜ (r .answer ≡ Refused why) × (r .moving ≡ s) ⌝ }
 {
-    Stepped {
+    Moved {
         answer: ReceivedB::Refused(why),
-        state: s,
+        moving: s,
     }
 }
 
 // A refusal that is remembered: the frame's bytes are left all zero.
-fn stop(why: Refusal, s: State, area: &mut [u8]) -> Stepped
+fn stop(why: Refusal, s: Moving, area: &mut [u8]) -> Moved
     requires { ⌜ s .size ≤ length (now area) ⌝ }
-    ensures { λ r. ⌜ (r .answer ≡ Refused why) × (r .state ≡ stopped why s) × (now (area .exit) ≡ replicate (s .size) 0 ++ drop (s .size) (now (area .entry))) ⌝ }
+    ensures { λ r. ⌜ (r .answer ≡ Refused why) × (r .moving ≡ moving (stopped why (withScheme [] s))) × (now (area .exit) ≡ replicate (s .size) 0 ++ drop (s .size) (now (area .entry))) ⌝ }
 {
     let size = s.size;
     receiver::clear(&mut area[0..size]);
-    Stepped {
+    Moved {
         answer: ReceivedB::Refused(why),
-        state: stopped(why, s),
+        moving: stopped(why, s),
     }
 }
 
 // The OFDM symbol's bits are taken in.
-fn take(s: State, stage: Stage, i: &[i16], q: &[i16], area: &mut [u8]) -> Stepped
-    requires { ⌜ Clean s stage (now i) (now q) (now area) ⌝ }
-    ensures { λ r. ⌜ Taking s (now (i .entry)) (now (q .entry)) (now (area .entry)) (r .answer) (r .state) (now (area .exit)) ⌝ }
+fn take(scheme: &[u8], s: Moving, stage: Stage, i: &[i16], q: &[i16], area: &mut [u8]) -> Moved
+    requires { ⌜ Clean (withScheme (now scheme) s) stage (now i) (now q) (now area) ⌝ }
+    ensures { λ r. ⌜ Taking (withScheme (now (scheme .entry)) s) (now (i .entry)) (now (q .entry)) (now (area .entry)) (r .answer) (withScheme (now (scheme .entry)) (r .moving)) (now (area .exit)) ⌝ }
 {
     let quadrants = constellation::quadrants();
-    let scheme = s.scheme;
     let block = s.block;
     let tally = Tally {
         count: s.count,
@@ -120,7 +116,7 @@ fn take(s: State, stage: Stage, i: &[i16], q: &[i16], area: &mut [u8]) -> Steppe
     };
     let end = stream::take_symbol(
         &quadrants,
-        &scheme,
+        scheme,
         s.mode,
         stage.plan,
         Stream { block, tally },
@@ -133,13 +129,12 @@ fn take(s: State, stage: Stage, i: &[i16], q: &[i16], area: &mut [u8]) -> Steppe
         return stop(Refusal::Uncorrectable(after.done), s, area);
     }
     let rest = end.block;
-    Stepped {
+    Moved {
         answer: ReceivedB::Accepted {
             mended: after.mended,
             worst: after.worst,
         },
-        state: State {
-            scheme,
+        moving: Moving {
             block: rest,
             count: after.count,
             mode: s.mode,
@@ -154,23 +149,30 @@ fn take(s: State, stage: Stage, i: &[i16], q: &[i16], area: &mut [u8]) -> Steppe
 }
 
 // 7 and 8 of the OFDM symbol go first.
-fn look(s: State, stage: Stage, i: &[i16], q: &[i16], area: &mut [u8]) -> Stepped
-    requires { ⌜ Next s stage (now i) (now q) (now area) ⌝ }
-    ensures { λ r. ⌜ Takes (pointsCheckedB 1 (s .scheme) (now (i .entry)) (now (q .entry))) s (now (i .entry)) (now (q .entry)) (now (area .entry)) (r .answer) (r .state) (now (area .exit)) ⌝ }
+fn look(scheme: &[u8], s: Moving, stage: Stage, i: &[i16], q: &[i16], area: &mut [u8]) -> Moved
+    requires { ⌜ Next (withScheme (now scheme) s) stage (now i) (now q) (now area) ⌝ }
+    ensures { λ r. ⌜ Takes (pointsCheckedB 1 (now (scheme .entry)) (now (i .entry)) (now (q .entry))) (withScheme (now (scheme .entry)) s) (now (i .entry)) (now (q .entry)) (now (area .entry)) (r .answer) (withScheme (now (scheme .entry)) (r .moving)) (now (area .exit)) ⌝ }
 {
     let at = SUB_CARRIERS * s.seen;
-    let found = scheme::first_fault(&s.scheme, 1, i, q);
+    let found = scheme::first_fault(scheme, 1, i, q);
     match found {
         Fault::Occupied(index) => stop(Refusal::Occupied(at + index), s, area),
         Fault::StrayPoint(index) => stop(Refusal::StrayPoint(at + index), s, area),
-        Fault::Clear => take(s, stage, i, q, area),
+        Fault::Clear => take(scheme, s, stage, i, q, area),
     }
 }
 
 // 6 after the last OFDM symbol, and 3.
-pub(crate) fn next(s: State, stage: Stage, i: &[i16], q: &[i16], area: &mut [u8]) -> Stepped
-    requires { ⌜ Staged s stage ⌝ }
-    ensures { λ r. ⌜ Steps (stepChecked Open s (now (i .entry)) (now (q .entry)) (now (area .entry))) s (now (i .entry)) (now (q .entry)) (now (area .entry)) (r .answer) (r .state) (now (area .exit)) ⌝ }
+pub(crate) fn next(
+    scheme: &[u8],
+    s: Moving,
+    stage: Stage,
+    i: &[i16],
+    q: &[i16],
+    area: &mut [u8],
+) -> Moved
+    requires { ⌜ Staged (withScheme (now scheme) s) stage ⌝ }
+    ensures { λ r. ⌜ Steps (stepChecked Open (withScheme (now (scheme .entry)) s) (now (i .entry)) (now (q .entry)) (now (area .entry))) (withScheme (now (scheme .entry)) s) (now (i .entry)) (now (q .entry)) (now (area .entry)) (r .answer) (withScheme (now (scheme .entry)) (r .moving)) (now (area .exit)) ⌝ }
 {
     if stage.plan.symbols <= s.seen {
         return unchanged(Refusal::TooManySymbols, s);
@@ -181,5 +183,5 @@ pub(crate) fn next(s: State, stage: Stage, i: &[i16], q: &[i16], area: &mut [u8]
     if area.len() < s.size {
         return unchanged(Refusal::NoRoom, s);
     }
-    look(s, stage, i, q, area)
+    look(scheme, s, stage, i, q, area)
 }

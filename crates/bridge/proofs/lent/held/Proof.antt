@@ -1,4 +1,4 @@
--- `bridge::lent::held` meets its contract: the parts of a state, each from its bytes.
+-- `bridge::lent::held` meets its contract: the parts of what moves, each from its number.
 -- Assumes nothing.
 use mathlib.Core.Path.{_≡_, sym}
 use native.Mathlib.Omega.{arith}
@@ -11,19 +11,14 @@ use Rattle.bridge.proofs.lent.held.Tie as tie
 
 returns : tie.Need-returns
 returns c =
-    let s = c .before .before .before .before .before in
-    let n = c .before .before .before .numbers-in in
-    let scheme = c .before .scheme-in in
-    let long : length (n .result) ≡ 17 = search needs in
-    of-parts (s .args .t1) (n .result) (scheme .result) _ (c .course-of .result) (n .ensures) (scheme .ensures)
-    (sym (first-eight (n .result) (omega arith))) (c .course-of .ensures)
+    let n = c .before .args .t1 in
+    let long : length n ≡ 17 = search needs in
+    of-parts n _ (c .course-of .result) (sym (first-eight n (omega arith))) (c .course-of .ensures)
 
 pub held-spec : {M : Type 1} → statement M
 held-spec =
     tie.close
     (tie.spec
-    (λ c κs. search needs)
-    (λ c κs. search needs)
     (λ c. search needs)
     (λ c. search needs)
     (λ c. search needs)

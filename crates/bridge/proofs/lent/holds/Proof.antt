@@ -4,53 +4,55 @@ use mathlib.Core.Path.{_≡_, sym, subst, ap, _∙_}
 use mathlib.Core.Bool.{Bool}
 use mathlib.Core.List.{List}
 use Prim.Native.Nat.{ℕ, _^_, _<_}
-use lib.ListN.{length, getD}
-use mir.Syntax.{w8, w64}
+use native.Mathlib.Omega.{arith}
+use lib.ListN.{length, getD, take}
+use mir.Syntax.{w64}
 use mir.Val.{Fits}
 use borrow.Author.Tests.{not-true, not-false}
-use Rattle.bridge.specs.Streams.{Same, numbersOf, lentOf, stateOf}
-use Rattle.bridge.proofs.Holdings.{numbers-so, holds-both}
+use Rattle.bridge.specs.Streams.{Same, spread, numbersOf, numbersIn, movingIn}
+use Rattle.bridge.proofs.Holdings.{first-numbers, numbers-so, holds-both}
 use borrow.Author.Needs.{needs}
 use Rattle.bridge.proofs.lent.holds.Statement.{statement}
 use Rattle.bridge.proofs.lent.holds.Tie as tie
 
+-- the numbers of what moves by those found
+own : (c : tie.After-numbers-of) → c .numbers-of .result ≡ numbersOf (movingIn (numbersIn (c .before .before .args .bytes .now)))
+own c = c .numbers-of .ensures .0 ∙ ap numbersOf (c .before .before .pre .3 ∙ ap movingIn (c .before .before .pre .1))
+
+-- what the comparison says
+compared : (c : tie.After-same) {b : Bool} → c .same .result ≡ b → Same b (c .before .before .before .args .n) (c .before .numbers-of .result)
+compared c e = subst (λ (b : Bool). Same b (c .before .before .before .args .n) (c .before .numbers-of .result)) e (c .same .ensures)
+
+same-requires : tie.Need-same-requires
+same-requires c κs =
+    let n = c .before .before .args .n in
+    let long : length n ≡ 17 = search needs in
+    first-numbers n (omega arith) ∙ sym (ap (take 13) (c .numbers-of .ensures .0 ∙ ap numbersOf (c .before .before .pre .3)))
+
 returns : tie.Need-returns
 returns c =
-    let s = c .before .before .before .before .before in
-    let bytes = s .args .t1 in
-    let found = c .before .before .before .numbers-in in
-    let own = c .before .before .numbers-of in
-    let same = c .before .same in
-    let differ =
-    subst (λ (b : Bool). Same b (found .result) (own .result)) (not-true (same .result) (c .if1 .taken)) (same .ensures) in
-    let its = own .ensures ∙ ap numbersOf (s .pre) in
-    let long : length bytes ≡ 352 = search needs in
-    let small : (k : ℕ) → getD bytes k 0 < 256 = λ k. let one : Fits w8 (getD bytes k 0) = search needs in one .fits in
-    let fit : (k : ℕ) → getD (numbersOf (stateOf bytes)) k 0 < 2 ^ 64 =
-    λ k. let one : Fits w64 (getD (own .result) k 0) = search needs in subst (λ (xs : List ℕ). getD xs k 0 < 2 ^ 64) its (one .fits) in
-    λ e. differ (found .ensures ∙ numbers-so bytes long small fit (e ∙ ap lentOf (s .pre)) ∙ sym its)
+    let of = c .before .before in
+    let s = of .before .before in
+    let fit : (k : ℕ) → getD (numbersOf (movingIn (numbersIn (s .args .bytes .now)))) k 0 < 2 ^ 64 =
+    λ k.
+    let one : Fits w64 (getD (of .numbers-of .result) k 0) = search needs in
+    subst (λ (xs : List ℕ). getD xs k 0 < 2 ^ 64) (own of) (one .fits) in
+    λ e. compared (c .before) (not-true _ (c .if1 .taken)) (s .pre .1 ∙ numbers-so (s .args .bytes .now) (s .pre .0) fit e ∙ sym (own of))
 
 returns-2 : tie.Need-returns-2
 returns-2 c =
-    let s = c .before .before .before .before .before .before .before in
-    let bytes = s .args .t1 in
-    let found = c .before .before .before .before .before .numbers-in in
-    let own = c .before .before .before .before .numbers-of in
-    let same = c .before .before .before .same in
-    let alike =
-    subst (λ (b : Bool). Same b (found .result) (own .result)) (not-false (same .result) (c .before .before .if1 .left)) (same .ensures) in
-    let long : length bytes ≡ 352 = search needs in
-    let small : (k : ℕ) → getD bytes k 0 < 256 = λ k. let one : Fits w8 (getD bytes k 0) = search needs in one .fits in
-    holds-both bytes long small (c .zeros .result) (s .args .state) (s .pre) (sym (found .ensures) ∙ alike ∙ own .ensures ∙ ap numbersOf (s .pre))
-    (c .zeros .ensures)
+    let of = c .before .before .before in
+    let s = of .before .before in
+    let alike = compared (c .before .before) (not-false _ (c .before .if1 .left)) in
+    let stand = sym (ap (λ (xs : List ℕ). spread 17 (λ k. getD xs k 0)) (s .pre .1)) ∙ s .pre .2 in
+    holds-both (s .args .bytes .now) (s .pre .0) (c .zeros .result) stand (sym (s .pre .1) ∙ alike ∙ own of) (c .zeros .ensures)
 
 pub holds-spec : {M : Type 1} → statement M
 holds-spec =
     tie.close
     (tie.spec
     (λ c κs. search needs)
-    (λ c κs. search needs)
-    (λ c κs. search needs)
+    same-requires
     returns
     (λ c κs. search needs)
     returns-2)

@@ -45,7 +45,7 @@ same-spec =
     (tie.spec
     Inv-loop
     μ-loop
-    (λ c. (omega arith, refl))
+    (λ c. (omega arith, c .pre))
     (λ c. search needs)
     (λ c. search needs)
     (λ c. search needs)

@@ -1,7 +1,6 @@
 -- `bridge::lent::store` meets its contract: byte after byte.
 -- Assumes nothing.
 use native.Mathlib.Omega.{arith}
-use lib.ListN.{length-set}
 use Rattle.bridge.proofs.Holds.{eight-put}
 use borrow.Author.Needs.{needs}
 use Rattle.bridge.proofs.lent.store.Statement.{statement}
@@ -10,7 +9,7 @@ use Rattle.bridge.proofs.lent.store.Tie as tie
 returns : tie.Need-returns
 returns c =
     let out = c .args .out .now in
-    (simp length-set (c .pre .0), eight-put out (c .args .at) _ _ _ _ _ _ _ _ (omega (arith, c .pre)))
+    eight-put out (c .args .at) _ _ _ _ _ _ _ _ (omega (arith, c .pre))
 
 pub store-spec : {M : Type 1} → statement M
 store-spec =

@@ -16,7 +16,7 @@ use Rattle.packed.specs.Packed.{bits512, padded}
 use Rattle.payload.specs.Scrambler.{start, registerAfter}
 use Rattle.payload_b.specs.CodedB.{blockBytes, blocksIn, symbolsFor}
 use Rattle.payload_b.specs.PlanB.{Judged}
-use Rattle.payload_b.specs.StreamB.{waitAfter, doneIn, allPass}
+use Rattle.payload_b.specs.StreamB.{withScheme, waitAfter, doneIn, allPass}
 use Rattle.payload_b.specs.declared.plan.Plan.{Plan}
 use Rattle.payload_b.specs.declared.plan.Verdict.{Verdict}
 use Rattle.payload_b.specs.declared.plan.Verdict.the-variants.{Passes}
@@ -31,7 +31,9 @@ use Rattle.payload_b.proofs.stream.judged.Tie as tie
 -- ---- places, and the state that is judged
 
 abbrev begin : tie.After-judged → State
-begin c = c .before .before .before .before .args .t1
+begin c =
+    let a = c .before .before .args in
+    withScheme (a .scheme .now) (a .t2)
 
 abbrev first : tie.Else1 → tie.After-plan
 first c = c .before .before .before

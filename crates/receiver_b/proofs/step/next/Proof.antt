@@ -10,22 +10,28 @@ use Rattle.answers.specs.Answers.{ofReceivedB}
 use Rattle.symbols.specs.Grids.{room}
 use Rattle.symbols.proofs.Rooms.{room-both}
 use Rattle.payload_b.specs.CodedB.{symbolsFor}
+use Rattle.payload_b.specs.StreamB.{withScheme}
+use Rattle.payload_b.specs.declared.stream.State.{State}
 use Rattle.payload_b.specs.declared.stream.Stage.{Stage}
 use Rattle.payload_b.proofs.StatesB.{kept-sound}
 use borrow.Author.Needs.{needs}
 use Rattle.receiver_b.proofs.step.next.Statement.{statement}
 use Rattle.receiver_b.proofs.step.next.Tie as tie
 
+-- the state
+abbrev state : tie.Start → State
+state k = withScheme (k .args .scheme .now) (k .args .s)
+
 -- the OFDM symbols that are needed
 abbrev needed : tie.Start → ℕ
-needed k = symbolsFor (k .args .s .mode) (k .args .s .size) (k .args .s .scheme)
+needed k = symbolsFor (k .args .s .mode) (k .args .s .size) (k .args .scheme .now)
 
 many : (k : tie.Start) → k .args .stage .plan .symbols ≡ needed k
 many k = ap (λ (t : Stage). t .plan .symbols) (k .pre .far)
 
 -- where another is wanted, and where I and Q have room for it
 abbrev wanted : tie.Else1 → tie.Start
-wanted c = c .before .before .before .before
+wanted c = c .before .before .before .before .before
 
 more : (c : tie.Else1) → wanted c .args .s .seen < needed (wanted c)
 more c = omega (arith, many (wanted c), c .if1 .left)
@@ -38,28 +44,28 @@ roomy c = sym (c .before .room .ensures) ∙ not-false _ (c .if2 .left)
 
 returns : tie.Need-returns
 returns c =
-    let k = c .before .before .before .before .before in
-    let s = k .args .s in
+    let k = c .before .before .before .before .before .before in
+    let s = state k in
     let all = le-ltb (s .seen) (needed k) (omega (arith, many k, c .before .if1 .taken)) in
-    rw (kept-sound s (k .pre .kept), all) (ap ofReceivedB (c .unchanged .ensures .0), c .unchanged .ensures .1, refl)
+    rw (kept-sound s (k .pre .kept), all) (ap ofReceivedB (c .unchanged .ensures .0), ap (withScheme (k .args .scheme .now)) (c .unchanged .ensures .1), refl)
 
 returns-2 : tie.Need-returns-2
 returns-2 c =
     let e = c .before .before .before in
     let k = wanted e in
-    let s = k .args .s in
+    let s = state k in
     let none = sym (c .before .before .room .ensures) ∙ not-true _ (c .before .if2 .taken) in
     rw (kept-sound s (k .pre .kept), lt-ltb (s .seen) (needed k) (more e), none)
-    (ap ofReceivedB (c .unchanged2 .ensures .0), c .unchanged2 .ensures .1, refl)
+    (ap ofReceivedB (c .unchanged2 .ensures .0), ap (withScheme (k .args .scheme .now)) (c .unchanged2 .ensures .1), refl)
 
 returns-3 : tie.Need-returns-3
 returns-3 c =
     let e = c .before .before .before in
     let k = roomed e in
-    let s = k .args .s in
+    let s = state k in
     let short = lt-leb (s .size) (length (k .args .area .now)) (c .before .if3 .taken) in
     rw (kept-sound s (k .pre .kept), lt-ltb (s .seen) (needed k) (more (e .before .before)), roomy e, short)
-    (ap ofReceivedB (c .unchanged3 .ensures .0), c .unchanged3 .ensures .1, refl)
+    (ap ofReceivedB (c .unchanged3 .ensures .0), ap (withScheme (k .args .scheme .now)) (c .unchanged3 .ensures .1), refl)
 
 look-requires : tie.Need-look-requires
 look-requires c κs =
@@ -73,7 +79,7 @@ returns-4 c =
     let f = c .before .before .before .before in
     let e = f .before .before in
     let k = roomed e in
-    let s = k .args .s in
+    let s = state k in
     let long = le-leb (s .size) (length (k .args .area .now)) (f .if3 .left) in
     rw (kept-sound s (k .pre .kept), lt-ltb (s .seen) (needed k) (more (e .before .before)), roomy e, long) (c .before .before .look .ensures)
 
