@@ -194,8 +194,8 @@ struct ortkaveq_received ortkaveq_receive_a(uint8_t mode, const int16_t *i, size
 /* ---- Payload B: modes 0, 1 and 2, up to 256 OFDM symbols, points by a scheme */
 
 /*
- * How many OFDM symbols a frame of size bytes needs: so many times 256 elements of i and of q are sent, and asked for by the two
- * calls below; a stream takes as many steps.
+ * How many OFDM symbols a frame of size bytes needs: so many times 256 elements of i and of q are sent, and asked for by the two calls below; a stream takes
+ * as many steps.
  * Reads: scheme, 210 entries, exactly. Writes nothing.
  * Refuses with 1, 2, 5, 6, as send B does.
  */
@@ -235,9 +235,10 @@ struct ortkaveq_answer ortkaveq_open_b(uint8_t mode, size_t size, const uint8_t 
  * Reads: stream; the first 256 elements of i and of q, this OFDM symbol's. Writes: to area the bytes of the blocks that are complete by it, in their place
  * in the frame, and no others; stream. mended and worst are over the blocks complete so far. Bytes of area whose block is not complete yet keep what they
  * held.
- * Refuses with the number that the stream holds, with 16, with 6 after the last OFDM symbol, with 3: these write nothing, neither to area nor to stream,
- * and after 3 the step may be made again with longer lists. Then with 7, 8, 9: these leave the first size bytes of area all zero, and from there on the
- * stream holds the refusal; its place is the index in the whole grid, or the block in the whole frame. Bytes of area beyond size keep what they held.
+ * Refuses with the number that the stream holds, with 16, with 6 after the last OFDM symbol, with 3: these change nothing, neither area nor stream, and
+ * after 3 the step may be made again with longer lists. Then with 7, 8, 9: these leave the first size bytes of area all zero, those of blocks that were
+ * complete too, and from there on the stream holds the refusal; its place is the index in the whole grid, or the block in the whole frame. Bytes of area
+ * beyond size keep what they held.
  */
 struct ortkaveq_received ortkaveq_step_b(struct ortkaveq_stream *stream, const int16_t *i, size_t i_length, const int16_t *q, size_t q_length, uint8_t *area,
                                          size_t area_length);

@@ -20,9 +20,10 @@ use Rattle.payload.specs.Wire.{Fits, FirstHopeless}
 use Rattle.payload.proofs.Wires.{one-fits, fits-hopeless, one-hopeless}
 use Rattle.payload_b.specs.CodedB.{blockBytes, blockBits, codeB, symbolsFor}
 use Rattle.payload_b.specs.PromiseB.{planned, pointsCheckedB}
-use Rattle.payload_b.specs.StreamB.{doneIn, fresh, stopped, sound, Kept, Judges, Opens, OpeningB}
+use Rattle.payload_b.specs.StreamB.{withScheme, moving, doneIn, fresh, stopped, sound, Kept, Judges, Opens, OpeningB}
 use Rattle.payload_b.specs.StreamB.{stepChecked, blocksNow, bitsNow, wireNow, onward, Stops, Takes, Steps, SteppingB}
 use Rattle.payload_b.specs.declared.stream.State.{State}
+use Rattle.payload_b.specs.declared.stream.Moving.{Moving}
 use Rattle.payload_b.specs.declared.stream.Course.{Course}
 use Rattle.payload_b.specs.declared.stream.Course.the-variants.{Open, Refused}
 use Rattle.payload_b.specs.declared.stream.Found.{Found}
@@ -119,3 +120,11 @@ module _ (s : State) (is qs : List ℤ) (area : List ℕ) (a b : ReceivedB) (s1 
 
   pub step-once : SteppingB s is qs area a s1 u → SteppingB s is qs area b s2 v → (a ≡ b) × (s1 ≡ s2) × (u ≡ v)
   step-once = one-step (s .course)
+
+-- the same where the scheme is lent
+module _ (scheme : List ℕ) (m : Moving) (is qs : List ℤ) (area : List ℕ) (a b : ReceivedB) (m1 m2 : Moving) (u v : List ℕ) where
+  pub step-lent-once : SteppingB (withScheme scheme m) is qs area a (withScheme scheme m1) u → SteppingB (withScheme scheme m) is qs area b (withScheme scheme m2) v
+      → (a ≡ b) × (m1 ≡ m2) × (u ≡ v)
+  step-lent-once p q =
+      let one = step-once (withScheme scheme m) is qs area a b (withScheme scheme m1) (withScheme scheme m2) u v p q in
+      (one .0, ap moving (one .1), one .2)

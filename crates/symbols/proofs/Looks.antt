@@ -1,12 +1,11 @@
 -- The quick look overlooks no fault: OFDM symbols that pass it have neither an occupied sub-carrier nor a stray point.
 -- Assumes nothing.
 use mathlib.Core.Path.{_≡_, refl, sym, ap, subst, _∙_}
-use mathlib.Core.Bool.{Bool, true, false, cond}
+use mathlib.Core.Bool.{Bool, false}
 use mathlib.Core.List.{List}
 use Prim.Native.Nat.{ℕ, suc, _+_, _-_, _*_, _/_, _%_, _≤_, _<_}
 use native.Mathlib.Decide.{decLe}
 use native.Mathlib.Omega.{arith}
-use lib.Dec.{eqb}
 use lib.IntN.{ℤ, pos, natAbs}
 use lib.ListN.{length, getD, take, drop, length-drop}
 use lib.Seq.{getD-take, getD-drop, length-take-le}
@@ -16,7 +15,7 @@ use Rattle.points.specs.declared.Point.the-variants.{Nothing}
 use Rattle.points.specs.declared.Label.the-variants.{Stray}
 use Rattle.points.specs.Constellations.{labelOf, isStray, levelI, levelQ}
 use Rattle.points.specs.Dqpsk.{phaseOf, strayAt}
-use Rattle.points.specs.Sizes.{mostOf, oddOf, Sized}
+use Rattle.points.specs.Sizes.{Sized}
 use Rattle.points.proofs.Legal.{sized-legal}
 use Rattle.points.proofs.Turns.{single-legal}
 use Rattle.symbols.specs.declared.Carrier.{Carrier}
@@ -24,7 +23,7 @@ use Rattle.symbols.specs.declared.Carrier.the-variants.{Holds, Empty}
 use Rattle.symbols.specs.Grid.{carrierAt, carrierOf}
 use Rattle.symbols.specs.Grids.{received, indexOf, occupied, occupiedAt, firstOccupied}
 use Rattle.symbols.specs.Schemes.{Scheme, repeated, strayIn}
-use Rattle.symbols.specs.Quick.{Passed, PassedBy, PassedAll, PassedFrom, Table, Zeros, EmptyFrom, Seen, Single}
+use Rattle.symbols.specs.Quick.{Passed, PassedBy, PassedAll, Half, Zeros, EmptyFrom, Seen, Single}
 use Rattle.symbols.proofs.Placement.{carrier-low, carrier-high, carrier-of-low, carrier-of-high}
 use Rattle.symbols.proofs.Indices.{carrier-of-lt}
 use Rattle.symbols.proofs.Readings.{length-received, received-at, none-occupied}
@@ -42,15 +41,18 @@ part-zeros xs from end l zeros k a b =
     let long : length (take (end - from) (drop from xs)) ≡ end - from = length-take-le (end - from) (drop from xs) (rw length-drop (omega arith)) in
     ap (λ (j : ℕ). getD xs j (pos 0)) (sym e) ∙ sym (part-at xs from (end - from) (k - from) (pos 0) (omega arith)) ∙ zeros (k - from) (omega arith)
 
-pub part-passed : (most odd holes : List ℕ) (is qs : List ℤ) (row k : ℕ) → row + 105 ≤ length most
-    → PassedAll (take (row + 105 - row) (drop row most)) (take (row + 105 - row) (drop row odd)) (take (row + 105 - row) (drop row holes))
-    (take (k + 105 - k) (drop k is)) (take (k + 105 - k) (drop k qs))
-    → PassedFrom row k most odd holes is qs
-part-passed most odd holes is qs row k l all s h =
-    let long : length (take (row + 105 - row) (drop row most)) ≡ row + 105 - row = length-take-le (row + 105 - row) (drop row most) (rw length-drop (omega arith)) in
-    let n : s < row + 105 - row = omega arith in
-    let m : s < k + 105 - k = omega arith in
-    rw (part-at most row _ s 0 n, part-at odd row _ s 0 n, part-at holes row _ s 0 n, part-at is k _ s (pos 0) m, part-at qs k _ s (pos 0) m) at (all s (omega arith))
+-- 105 entries of a scheme, from `row` on
+pub part-half : {scheme : List ℕ} → Scheme scheme → (row : ℕ) → row + 105 ≤ 210 → Half (take 105 (drop row scheme))
+part-half {scheme} good row h = record {
+  long = length-take-le 105 (drop row scheme) (rw length-drop (omega (arith, good .long)));
+  each = λ s l. rw (part-at scheme row 105 s 0 l) (entry-in good (row + s) (omega arith));
+}
+
+-- what passes by them passes by the scheme
+pub part-passed : (scheme : List ℕ) (is qs : List ℤ) (row k : ℕ) → PassedAll (take 105 (drop row scheme)) (take 105 (drop k is)) (take 105 (drop k qs))
+    → (s : ℕ) → s < 105 → PassedBy scheme (row + s) (getD is (k + s) (pos 0)) (getD qs (k + s) (pos 0))
+part-passed scheme is qs row k all s h =
+    rw (part-at scheme row 105 s 0 h, part-at is k 105 s (pos 0) h, part-at qs k 105 s (pos 0) h) at (all s h)
 
 -- the levels of points on the sub-carriers from k to before `end`
 pub part-single : (is qs : List ℤ) (k end : ℕ) → end ≤ length is
@@ -163,39 +165,30 @@ clean-free P m is qs c = none-occupied is qs 0 (256 * m) (λ j a h. c .free j (o
 
 -- ---- by a scheme
 
-cond-two : (b : Bool) → cond b 0 1 % 2 ≡ cond b 0 1
-cond-two true = refl
-cond-two false = refl
-
-odd-two : (n : ℕ) → oddOf n % 2 ≡ oddOf n
-unfolding oddOf
-odd-two n = cond-two (eqb n 3)
-
--- what passes by the tables of n bits is a point of n bits
-sized-passed : (n most odd holes : ℕ) (i q : ℤ) → n ≤ 10 → most ≡ mostOf n → odd ≡ oddOf n → holes ≡ n % 2 → Passed most odd holes (natAbs i) (natAbs q) → Sized n i q
-sized-passed n most odd holes i q few m o h p = record {
+-- what passes as a point of n bits is one
+sized-passed : (n : ℕ) (i q : ℤ) → n ≤ 10 → Passed n (natAbs i) (natAbs q) → Sized n i q
+sized-passed n i q few p = record {
   few = few;
-  low-i = omega (arith, p .low-e, m);
-  low-q = omega (arith, p .low-f, m);
-  odd-i = p .odd-e ∙ ap (λ (x : ℕ). x % 2) o ∙ odd-two n;
-  odd-q = p .odd-f ∙ ap (λ (x : ℕ). x % 2) o ∙ odd-two n;
+  low-i = p .low-e;
+  low-q = p .low-f;
+  odd-i = p .odd-e;
+  odd-q = p .odd-f;
   no-hole = λ one e f. omega (arith, p .no-hole e f);
 }
 
-module _ {scheme : List ℕ} (good : Scheme scheme) (most odd holes : List ℕ)
-    (of-most : Table mostOf scheme most 210) (of-odd : Table oddOf scheme odd 210) (of-holes : Table (λ n. n % 2) scheme holes 210) where
-  -- the point of row s is one of its constellation
-  row-legal : (s : ℕ) (i q : ℤ) → s < 210 → PassedBy most odd holes s i q → isStray (labelOf (getD scheme s 0) i q) ≡ false
-  row-legal s i q h p = sized-legal (getD scheme s 0) i q (sized-passed _ _ _ _ i q (entry-in good s h .1) (of-most s h) (of-odd s h) (of-holes s h) p)
+module _ {scheme : List ℕ} (good : Scheme scheme) where
+  -- the point of entry s is one of its constellation
+  entry-legal : (s : ℕ) (i q : ℤ) → s < 210 → PassedBy scheme s i q → isStray (labelOf (getD scheme s 0) i q) ≡ false
+  entry-legal s i q h p = sized-legal (getD scheme s 0) i q (sized-passed _ i q (entry-in good s h .1) p)
 
   -- all m have no fault
-  pub sized-all : (m : ℕ) (is qs : List ℤ) → Clean (PassedBy most odd holes) is qs m
+  pub sized-all : (m : ℕ) (is qs : List ℤ) → Clean (PassedBy scheme) is qs m
       → (firstOccupied is qs 0 (256 * m) ≡ 256 * m) × (strayIn (repeated m scheme) (received m is qs) ≡ 210 * m)
   sized-all m is qs c = (
-    clean-free (PassedBy most odd holes) m is qs c,
+    clean-free (PassedBy scheme) m is qs c,
     first-none isStray Stray (labels good m is qs) (λ place h.
         let l : place < 210 * m = omega (arith, labels-long good m is qs) in
-        ap isStray (labels-at good m is qs place l) ∙ row-legal (place % 210) _ _ (omega arith) (c .held place l)) ∙ labels-long good m is qs,
+        ap isStray (labels-at good m is qs place l) ∙ entry-legal (place % 210) _ _ (omega arith) (c .held place l)) ∙ labels-long good m is qs,
   )
 
 -- ---- by DQPSK

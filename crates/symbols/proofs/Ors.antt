@@ -1,15 +1,12 @@
--- Loops that gather by OR what is wrong: where the OR is 0, nothing was. And the tables that such a loop looks into.
+-- Loops that gather by OR what is wrong: where the OR is 0, nothing was.
 -- Assumes nothing.
-use mathlib.Core.Path.{_≡_, _∙_}
-use mathlib.Core.List.{List}
+use mathlib.Core.Path.{_≡_}
 use Prim.Native.Nat.{ℕ, _+_, _%_, _<_}
 use native.Mathlib.Omega.{arith}
 use lib.Bits.{bitOr, bitXor, or-add-and, xor-add-and, and-le-l, and-le-r}
 use lib.IntN.{ℤ, pos, negsuc, natAbs}
-use lib.ListN.{length, getD, set}
-use lib.Seq.{getD-set-same, getD-set-other}
 use borrow.Author.Count.{below-more}
-use Rattle.symbols.specs.Quick.{Passed, Table}
+use Rattle.symbols.specs.Quick.{Passed}
 
 pub or-none : (a b : ℕ) → bitOr a b ≡ 0 → (a ≡ 0) × (b ≡ 0)
 or-none a b e =
@@ -31,13 +28,6 @@ pub size-zero : (x : ℤ) → natAbs x ≡ 0 → x ≡ pos 0
 size-zero (pos n) e = cc
 size-zero (negsuc n) e = absurd (omega arith)
 
--- a row more of a table
-pub table-more : (f : ℕ → ℕ) (scheme out : List ℕ) (s v : ℕ) → s < length out → v ≡ f (getD scheme s 0) → Table f scheme out s → Table f scheme (set out s v) (s + 1)
-table-more f scheme out s v l e before =
-    below-more (λ t. getD (set out s v) t 0 ≡ f (getD scheme t 0)) s
-    (λ t h. getD-set-other out s t v 0 (λ same. omega arith) ∙ before t h)
-    (getD-set-same out s v 0 l ∙ e)
-
 -- the sizes as the code has them are those of the levels
-pub passed-as : {most odd holes e f x y : ℕ} → e ≡ x → f ≡ y → Passed most odd holes e f → Passed most odd holes x y
+pub passed-as : {n e f x y : ℕ} → e ≡ x → f ≡ y → Passed n e f → Passed n x y
 passed-as e f p = rw (e, f) at p

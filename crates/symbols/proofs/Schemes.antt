@@ -4,7 +4,7 @@ use mathlib.Core.Path.{_≡_, refl, sym, ap, ap₂, _∙_}
 use mathlib.Core.Bool.{Bool, true, false, _||_, true≢false}
 use mathlib.Core.List.{List, [], _∷_, _++_, append-nil, append-assoc}
 use Prim.Native.Nat.{ℕ, zero, suc, _+_, _-_, _*_, _%_, _≤_, _<_}
-use native.Mathlib.Nat.{mul-zero, mul-suc, mod-eq-of-lt, mod-eq-sub-mod}
+use native.Mathlib.Nat.{le-antisymm, mul-zero, mul-suc, mod-eq-of-lt, mod-eq-sub-mod}
 use native.Mathlib.Decide.{decLe}
 use native.Mathlib.Omega.{arith}
 use borrow.Author.Tests.{ltb-false}
@@ -34,6 +34,21 @@ Entries ns = (k : ℕ) → k < length ns → (2 ≤ getD ns k 0) × (getD ns k 0
 
 pub behind : (n : ℕ) (ns : List ℕ) → Entries (n ∷ ns) → Entries ns
 behind n ns each k h = each (suc k) (omega arith)
+
+-- n is k, or larger
+or-larger : {A : Type 0} (k n : ℕ) → k ≤ n → (n ≡ k → A) → (k + 1 ≤ n → A) → A
+or-larger {A} k n h here larger = by (decLe (k + 1) n)
+  where
+    by : Dec (k + 1 ≤ n) → A
+    by (yes l) = larger l
+    by (no l) = here (omega arith)
+
+-- what follows from each number from 2 to 10 follows from an entry
+pub entry-cases : {A : Type 0} (n : ℕ) → (2 ≤ n) × (n ≤ 10)
+    → (n ≡ 2 → A) → (n ≡ 3 → A) → (n ≡ 4 → A) → (n ≡ 5 → A) → (n ≡ 6 → A) → (n ≡ 7 → A) → (n ≡ 8 → A) → (n ≡ 9 → A) → (n ≡ 10 → A) → A
+entry-cases n h two three four five six seven eight nine ten =
+    or-larger 2 n (h .0) two (λ l. or-larger 3 n l three (λ l. or-larger 4 n l four (λ l. or-larger 5 n l five (λ l. or-larger 6 n l six
+    (λ l. or-larger 7 n l seven (λ l. or-larger 8 n l eight (λ l. or-larger 9 n l nine (λ l. ten (le-antisymm (h .1) l)))))))))
 
 -- ---- sums
 

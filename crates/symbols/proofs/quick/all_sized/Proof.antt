@@ -12,30 +12,28 @@ use Rattle.symbols.proofs.quick.all_sized.Statement.{statement}
 use Rattle.symbols.proofs.quick.all_sized.Tie as tie
 
 abbrev Inv-loop : tie.InvT-loop
-Inv-loop scheme m i q most odd holes k₀ k = (k ≤ m) × Clean (PassedBy most odd holes) i q k
+Inv-loop scheme m i q k₀ k = (k ≤ m) × Clean (PassedBy scheme) i q k
 
 abbrev μ-loop : tie.MeasureT-loop
-μ-loop scheme m i q most odd holes k₀ k = m - k
+μ-loop scheme m i q k₀ k = m - k
 
 returns : tie.Need-returns Inv-loop μ-loop
 returns c = λ e. absurd (true≢false (sym e))
 
 loop-again : tie.Need-loop-again Inv-loop μ-loop
 loop-again c =
-    let at = c .before .before .before .before .before .before .before .before in
-    let s = at .before .before .before .before .before .before in
+    let at = c .before .before .before .before .before in
+    let a = at .before .before .args in
     let look = c .before .sized .ensures (not-false (c .before .sized .result) (c .if1 .left)) in
-    (omega arith, clean-more _ (s .args .i .now) (s .args .q .now) (at .loop .k) look (at .loop .inv .1))
+    (omega arith, clean-more (PassedBy (a .scheme .now)) (a .i .now) (a .q .now) (at .loop .k) look (at .loop .inv .1))
 
 returns-2 : tie.Need-returns-2 Inv-loop μ-loop
 returns-2 c = λ e.
     let at = c .before in
-    let tables = at .before .fill .ensures in
-    let s = at .before .before .before .before .before .before in
-    let whole : at .loop .k ≡ s .args .m = omega arith in
-    let left = at .before .fill .last .1 in
-    sized-all (s .pre .0) (left .0) (left .1 .0) (left .1 .1 .0) (tables .0) (tables .1) (tables .2) (s .args .m) (s .args .i .now) (s .args .q .now)
-    (subst (Clean _ (s .args .i .now) (s .args .q .now)) whole (at .loop .inv .1))
+    let s = at .before .before in
+    let a = s .args in
+    let whole : at .loop .k ≡ a .m = omega arith in
+    sized-all (s .pre .0) (a .m) (a .i .now) (a .q .now) (subst (Clean (PassedBy (a .scheme .now)) (a .i .now) (a .q .now)) whole (at .loop .inv .1))
 
 pub all-sized-spec : {M : Type 1} → statement M
 all-sized-spec =
@@ -43,7 +41,6 @@ all-sized-spec =
     (tie.spec
     Inv-loop
     μ-loop
-    (λ c κs. search needs)
     (λ c. (omega arith, clean-none _ _ _))
     (λ c. search needs)
     (λ c. search needs)

@@ -4,7 +4,7 @@ use mathlib.Core.Path.{_≡_, ap, _∙_}
 use Prim.Native.Nat.{ℕ, _-_, _<_}
 use native.Mathlib.Omega.{arith}
 use lib.IntN.{ℤ, pos, natAbs}
-use lib.ListN.{length, getD}
+use lib.ListN.{getD}
 use mir.Syntax.{w16}
 use mir.ValLaws.{toZ-ofZ}
 use Rattle.symbols.specs.Quick.{PassedBy}
@@ -14,10 +14,10 @@ use Rattle.symbols.proofs.quick.amiss.Statement.{statement}
 use Rattle.symbols.proofs.quick.amiss.Tie as tie
 
 abbrev Inv-loop : tie.InvT-loop
-Inv-loop most odd holes i q x₀ s₀ x s = x ≡ 0 → (t : ℕ) → t < s → PassedBy most odd holes t (getD i t (pos 0)) (getD q t (pos 0))
+Inv-loop entries i q x₀ s₀ x s = x ≡ 0 → (t : ℕ) → t < s → PassedBy entries t (getD i t (pos 0)) (getD q t (pos 0))
 
 abbrev μ-loop : tie.MeasureT-loop
-μ-loop most odd holes i q x₀ s₀ x s = length most - s
+μ-loop entries i q x₀ s₀ x s = 105 - s
 
 loop-holds : tie.Need-loop-holds Inv-loop μ-loop
 loop-holds c = λ e t h. absurd (omega arith)
@@ -26,10 +26,10 @@ abbrev sizes : tie.After-wrong Inv-loop μ-loop → tie.After-size2 Inv-loop μ-
 sizes c = c .before
 
 abbrev looped : tie.After-size2 Inv-loop μ-loop → tie.At-loop Inv-loop μ-loop
-looped c = c .before .before .before .before .before .before .before .before
+looped c = c .before .before .before .before .before .before
 
 abbrev first : tie.At-loop Inv-loop μ-loop → tie.Start Inv-loop μ-loop
-first c = c .before .before .before .before
+first c = c .before .before
 
 -- the levels at s, and their sizes
 abbrev level-i : tie.After-size2 Inv-loop μ-loop → ℤ
@@ -44,11 +44,14 @@ size-i c = c .before .before .size .ensures ∙ ap natAbs (toZ-ofZ w16 (level-i 
 size-q : (c : tie.After-size2 Inv-loop μ-loop) → c .size2 .result ≡ natAbs (level-q c)
 size-q c = c .size2 .ensures ∙ ap natAbs (toZ-ofZ w16 (level-q c) (record { sfits = c .before .size-arg2 .given }))
 
+wrong-requires : tie.Need-wrong-requires Inv-loop μ-loop
+wrong-requires c κs = first (looped c) .pre .0 .each (looped c .loop .s) (omega arith)
+
 loop-again : tie.Need-loop-again Inv-loop μ-loop
 loop-again c =
     let l = looped (sizes c) .loop in
     let a = first (looped (sizes c)) .args in
-    or-more (λ t. PassedBy (a .most .now) (a .odd .now) (a .holes .now) t (getD (a .i .now) t (pos 0)) (getD (a .q .now) t (pos 0)))
+    or-more (λ t. PassedBy (a .entries .now) t (getD (a .i .now) t (pos 0)) (getD (a .q .now) t (pos 0)))
     (l .x) (c .wrong .result) (l .s) (l .inv) (λ e. passed-as (size-i (sizes c)) (size-q (sizes c)) (c .wrong .ensures e))
 
 returns : tie.Need-returns Inv-loop μ-loop
@@ -64,16 +67,11 @@ amiss-spec =
     (λ c. search needs)
     (λ c. search needs)
     (λ c. search needs)
-    (λ c. search needs)
-    (λ c. search needs)
-    (λ c. search needs)
-    (λ c. search needs)
-    (λ c. search needs)
     (λ c κs. search needs)
     (λ c. search needs)
     (λ c. search needs)
     (λ c κs. search needs)
-    (λ c κs. search needs)
+    wrong-requires
     (λ c. search needs)
     (λ c. search needs)
     loop-again
