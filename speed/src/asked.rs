@@ -47,7 +47,8 @@ pub fn cable() -> String {
 
 /// What is asked, a line each; where no row tells of it, none.
 pub fn print(all: &[Timed], streams: &[Streamed]) {
-    let lines = [beside_second(all, streams), beside_the_cable(all), among_many(all), by_steps(streams), a_step(streams)];
+    let lines =
+        [beside_second(all, streams), beside_the_cable(all), among_many(all), by_steps(streams), a_step(streams)];
     lines.into_iter().flatten().for_each(|line| println!("- {line}"));
 }
 

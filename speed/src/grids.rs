@@ -27,9 +27,7 @@ const STREAM: Job = ("receive by steps", (ours::stream_b, theirs::stream_b));
 
 /// All rows of Payload B whole: receiving, clean and, if coded, with t hits in each block, and sending.
 pub fn all() -> impl Iterator<Item = Row> {
-    schemes().flat_map(|(mode, scheme)| {
-        received(mode, scheme, RECEIVE).chain(frames(mode, scheme).map(Longest::sent))
-    })
+    schemes().flat_map(|(mode, scheme)| received(mode, scheme, RECEIVE).chain(frames(mode, scheme).map(Longest::sent)))
 }
 
 /// All rows of Payload B by steps: the same frames as received whole.
