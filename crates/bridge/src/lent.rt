@@ -5,7 +5,6 @@ ghost use mathlib.Core.Path.{_≡_};
 ghost use mathlib.Core.List.{_++_};
 ghost use Prim.Native.Nat.{_+_, _≤_, _<_};
 ghost use lib.ListN.{length, getD, take, drop, replicate};
-ghost use Rattle.symbols.specs.Grid.{symbolPoints};
 ghost use Rattle.bridge.specs.Streams.{Same, octets, spread, FourBytes, fourAt, numberAt, numbersIn, numbersOf, Formed, movingIn, lentOf, stateOf};
 use payload_b::stream;
 use payload_b::stream::Moving;
