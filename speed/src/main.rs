@@ -84,14 +84,14 @@ fn compare(row: &Row) {
     }
 }
 
-/// Nanoseconds a call of each: rounds over all inputs, the calls by turns; of each group of inputs the fastest round
-/// counts, so that a pause of the machine does not.
+/// Nanoseconds a call of each: rounds over all inputs, the calls by turns, each round beginning with the next; of each group
+/// of inputs the fastest round counts, so that a pause of the machine does not.
 fn fastest<const N: usize>(row: &Row, calls: [Call; N]) -> [f64; N] {
     let mut least = calls.map(|_| vec![u128::MAX; row.inputs.len() / row.group]);
     let mut memory = Memory::new();
-    for _ in 0..ROUNDS {
-        for (call, least) in calls.into_iter().zip(&mut least) {
-            round(row, call, &mut memory, least);
+    for turn in 0..ROUNDS {
+        for n in (0..N).map(|n| (turn + n) % N) {
+            round(row, calls[n], &mut memory, &mut least[n]);
         }
     }
     least.map(|groups| mean(row, &groups))

@@ -40,11 +40,12 @@ pub struct Memory {
     pub bytes: [u8; BYTES],
     pub i: [i16; POINTS],
     pub q: [i16; POINTS],
+    pub stream: ours::Stream,
 }
 
 impl Memory {
     pub fn new() -> Box<Memory> {
-        Box::new(Memory { bytes: [7; BYTES], i: [7; POINTS], q: [7; POINTS] })
+        Box::new(Memory { bytes: [7; BYTES], i: [7; POINTS], q: [7; POINTS], stream: ours::Stream::new() })
     }
 }
 
