@@ -150,12 +150,12 @@ fn ending(rng: &mut Rng) -> Vec<u8> {
     let good = Request::Encode { code: 9, word: vec![1; 5], out: vec![2; 5] }.to_bytes();
     let (bytes, points) = (vec![1; MOST_BYTES + 1], vec![1; MOST_POINTS + 1]);
     let (none, few) = (vec![], vec![]);
-    match rng.below(10) {
+    match rng.below(13) {
         0 => vec![],
         1 => {
             // In the place of a job byte, or before one.
             let skipped = rng.below(2);
-            [vec![rng.pick(&[0, 7, 8, 128, 255])], good[skipped..].to_vec(), good].concat()
+            [vec![rng.pick(&[0, 17, 64, 128, 255])], good[skipped..].to_vec(), good].concat()
         }
         2 => {
             let whole = hostile::request(rng.draw(), 0, &[1, 2, 3, 4, 5, 6]).to_bytes();
@@ -167,6 +167,19 @@ fn ending(rng: &mut Rng) -> Vec<u8> {
         6 => [Request::SendA { mode: 1, frame: few, i: points, q: none }.to_bytes(), good].concat(),
         7 => [Request::ReceiveA { mode: 1, i: none, q: points, area: few }.to_bytes(), good].concat(),
         8 => {
+            let whole = hostile::request(rng.draw(), 0, &[7, 8]).to_bytes();
+            whole[..rng.between(1, whole.len() - 1)].to_vec()
+        }
+        9 => {
+            let (i, q, out_q) = (none.clone(), none.clone(), none);
+            [Request::DecideA { mode: 1, i, q, out_i: points, out_q }.to_bytes(), good].concat()
+        }
+        10 => {
+            let (i, q, out_i) = (none.clone(), none.clone(), none);
+            let scheme = vec![2; 210];
+            [Request::DecideB { mode: 0, length: 1, scheme, i, q, out_i, out_q: points }.to_bytes(), good].concat()
+        }
+        11 => {
             let state = vec![0; rng.pick(&[0, 1, 325, 327, 652])];
             [Request::StepB { state, i: none.clone(), q: none, area: few }.to_bytes(), good].concat()
         }
@@ -200,6 +213,13 @@ pub fn described(request: &Request) -> String {
             let lists = format!("I of {}, Q of {}, area of {}", i.len(), q.len(), area.len());
             format!("{job}, mode {mode}, frame length {length}, scheme of {}, {lists}", scheme.len())
         }
+        Request::DecideA { mode, i, q, out_i, out_q } => {
+            format!("{job}, mode {mode}, {}", decided_lists([i, q, out_i, out_q]))
+        }
+        Request::DecideB { mode, length, scheme, i, q, out_i, out_q } => {
+            let lists = decided_lists([i, q, out_i, out_q]);
+            format!("{job}, mode {mode}, frame length {length}, scheme of {}, {lists}", scheme.len())
+        }
         Request::StreamB { mode, length, scheme, area, calls } => {
             let lists = format!("scheme of {}, area of {}", scheme.len(), area.len());
             format!("{job}, mode {mode}, frame length {length}, {lists}, {} calls", calls.len())
@@ -209,6 +229,11 @@ pub fn described(request: &Request) -> String {
             format!("{job}, {state}, I of {}, Q of {}, area of {}", i.len(), q.len(), area.len())
         }
     }
+}
+
+/// The lengths of the lists that a decision reads and writes.
+fn decided_lists([i, q, out_i, out_q]: [&Vec<i16>; 4]) -> String {
+    format!("I of {}, Q of {}, out I of {}, out Q of {}", i.len(), q.len(), out_i.len(), out_q.len())
 }
 
 /// Both heads, and the first byte where the responses part.
@@ -306,6 +331,9 @@ fn part(request: &Request, at: usize) -> String {
         Request::Encode { out, .. } | Request::Decode { out, .. } => vec![("out", 1, out.len())],
         Request::ReceiveA { area, .. } | Request::ReceiveB { area, .. } => vec![("area", 1, area.len())],
         Request::SendA { i, q, .. } | Request::SendB { i, q, .. } => vec![("I", 2, i.len()), ("Q", 2, q.len())],
+        Request::DecideA { out_i, out_q, .. } | Request::DecideB { out_i, out_q, .. } => {
+            vec![("out I", 2, out_i.len()), ("out Q", 2, out_q.len())]
+        }
         Request::StreamB { .. } => vec![],
         Request::StepB { state, area, .. } => vec![("state", 1, state.len()), ("area", 1, area.len())],
     };
@@ -408,6 +436,41 @@ mod tests {
                 }
             }
             assert!(names.iter().all(|name| !part(&request, 8 * names.len() + 1).ends_with(name)));
+        }
+    }
+
+    #[test]
+    fn decided_points_that_differ_are_named() {
+        let (i, q, out_i, out_q) = (vec![64; 512], vec![0; 513], vec![7; 512], vec![8; 514]);
+        let a = Request::DecideA { mode: 1, i, q, out_i, out_q };
+        let (i, q, out_i, out_q) = (vec![64; 256], vec![0; 257], vec![7; 512], vec![8; 514]);
+        let b = Request::DecideB { mode: 0, length: 2, scheme: vec![4; 210], i, q, out_i, out_q };
+        let lists = "I of 512, Q of 513, out I of 512, out Q of 514";
+        assert_eq!(described(&a), format!("decide A, mode 1, {lists}"));
+        let lists = "scheme of 210, I of 256, Q of 257, out I of 512, out Q of 514";
+        assert_eq!(described(&b), format!("decide B, mode 0, frame length 2, {lists}"));
+        for request in [a, b] {
+            let expected = answered(request.clone(), &mut Tally::default());
+            // Nine bytes of number and place, then the lists and their counts.
+            assert_eq!(expected.len(), 9 + 4 + 2 * 512 + 4 + 2 * 514);
+            for (at, text) in [
+                (0, "byte 0, the number"),
+                (8, "byte 8, in place"),
+                (9, "byte 9, in the count of out I"),
+                (13, "byte 13, out I[0]"),
+                (14, "byte 14, out I[0]"),
+                (1_036, "byte 1036, out I[511]"),
+                (1_040, "byte 1040, in the count of out Q"),
+                (1_041, "byte 1041, out Q[0]"),
+                (2_068, "byte 2068, out Q[513]"),
+            ] {
+                let mut got = expected.clone();
+                got[at] ^= 1;
+                let difference = difference(&request, &expected, &got);
+                assert!(difference.ends_with(text), "{difference}");
+                assert!(difference.contains("  expected number 0 place 0\n"), "{difference}");
+            }
+            assert_eq!(part(&request, expected.len()), "byte 2069, the end");
         }
     }
 

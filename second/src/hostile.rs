@@ -8,6 +8,7 @@ mod forged;
 mod frames;
 mod grids;
 mod lent;
+mod noisy;
 mod strays;
 mod streams;
 mod words;
@@ -20,7 +21,7 @@ fn share(job: u8) -> usize {
     match job {
         2 => 20,
         4 => 9,
-        6 | 9 | 16 => 12,
+        6 | 8 | 9 | 16 => 12,
         _ => 4,
     }
 }
@@ -36,6 +37,8 @@ pub fn request(seed: u64, index: u64, jobs: &[u8]) -> Request {
         4 => bursts::receive(&mut rng),
         5 => frames::send(&mut rng),
         6 => frames::receive(&mut rng),
+        7 => noisy::decide_a(&mut rng),
+        8 => noisy::decide_b(&mut rng),
         9 => streams::stream(&mut rng),
         _ => streams::step(&mut rng),
     }
@@ -117,6 +120,7 @@ mod tests {
     use super::*;
     use crate::again::blocks;
     use crate::answer::NUMBERS;
+    use crate::noisy;
     use crate::stray::{Kind, Legal};
     use crate::tally::{protected::RESTS, Tally};
     use std::collections::BTreeMap;
@@ -132,14 +136,16 @@ mod tests {
 
     #[test]
     fn every_refusal_of_every_job_comes_often() {
-        let tally = Tally::of(1, 5_000, &[1, 2, 3, 4, 5, 6]);
-        let numbers: [&[usize]; 6] = [
+        let tally = Tally::of(1, 6_000, &[1, 2, 3, 4, 5, 6, 7, 8]);
+        let numbers: [&[usize]; 8] = [
             &[0, 1, 2, 3, 4],
             &[0, 1, 2, 3, 4, 9],
             &[0, 1, 2, 3],
             &[0, 1, 3, 7, 8, 9, 10, 11],
             &[0, 1, 2, 3, 5, 6],
             &[0, 1, 2, 3, 5, 6, 7, 8, 9],
+            &[0, 1, 3],
+            &[0, 1, 2, 3, 5, 6],
         ];
         for (job, numbers) in numbers.iter().enumerate() {
             for number in 0..NUMBERS {
@@ -169,6 +175,43 @@ mod tests {
         for (number, part) in [7, 8, 9].into_iter().flat_map(|number| [0, 1, 2].map(|part| (number, part))) {
             assert!(streams.refused(number, part) >= 10, "number {number}, part {part}");
         }
+    }
+
+    #[test]
+    fn every_kind_of_noisy_point_and_ties_come_on_both_halves() {
+        for (job, all) in [(7, vec![Legal::Dqpsk]), (8, (2..=10).map(Legal::Qam).collect())] {
+            let tally = Tally::of(1, 1_000, &[job]);
+            for legal in all {
+                for (kind, half) in noisy::kinds(legal).into_iter().flat_map(|kind| [(kind, 0), (kind, 1)]) {
+                    let seen = tally.noisy.count(legal, |h, k| (h, k) == (half, kind));
+                    assert!(seen >= 100, "{legal:?}, half {half}, {kind:?}: {seen}");
+                }
+                let ties = tally.noisy.ties(legal);
+                assert!(ties.iter().all(|&count| count >= 100), "{legal:?}: {ties:?}");
+            }
+        }
+    }
+
+    #[test]
+    fn each_of_the_lists_of_a_decision_is_the_only_short_one_now_and_then() {
+        let mut alone = [[0; 4]; 2];
+        for index in 0..4_000 {
+            let mut request = request(4, index, &[7, 8]);
+            let refused = request.call() == Err(crate::answer::Refusal::NoRoom);
+            let (lists, need) = match &request {
+                Request::DecideA { i, q, out_i, out_q, .. } => ([i, q, out_i, out_q], 512),
+                Request::DecideB { mode, length, scheme, i, q, out_i, out_q } => {
+                    let plan = crate::payload_b::plan(*mode, *length, scheme);
+                    ([i, q, out_i, out_q], plan.map_or(0, |plan| 256 * plan.symbols))
+                }
+                _ => unreachable!("only jobs 7 and 8"),
+            };
+            let short: Vec<usize> = (0..4).filter(|&list| lists[list].len() < need).collect();
+            if let (true, &[only]) = (refused, &short[..]) {
+                alone[request.job() as usize - 7][only] += 1;
+            }
+        }
+        assert!(alone.iter().flatten().all(|&count| count >= 15), "{alone:?}");
     }
 
     #[test]

@@ -2,7 +2,7 @@
 
 use second::points::constellation;
 use second::tally::Tally;
-use second::{astray, compare, earlier, field, hostile, largest, numbers, streamed, trial};
+use second::{astray, compare, earlier, field, hostile, largest, numbers, regions, streamed, trial};
 use std::io::{self, BufWriter, Write};
 use std::process::ExitCode;
 
@@ -12,14 +12,15 @@ second responses < REQUESTS                     writes the responses that are ex
 second compare SEED COUNT [JOBS] -- COMMAND..   drives a trial program, prints differences and 'N passed, M failed'
 second largest SEED -- COMMAND..                drives a trial program with the largest frames of Payload B, and one byte or block more
 second earlier SEED COUNT -- COMMAND..          drives a trial program against the earlier rule of the frame check: each must refuse what the other sends, clean and mended; 'N passed, M failed'
+second grids [-- COMMAND..]                     drives a trial program through jobs 7 and 8 over whole grids of noisy points, or without a command this one; a line for each constellation, and 'N pairs, F failed'
 second one SEED INDEX [JOBS]                    writes the single request of this index
-second tally SEED COUNT [JOBS]                  counts the refusal numbers of each job, their places, what came as far as the decoder, worst blocks, lists of mended places, protected bits that differed, and kinds of stray points
+second tally SEED COUNT [JOBS]                  counts the refusal numbers of each job, their places, what came as far as the decoder, worst blocks, lists of mended places, protected bits that differed, and kinds of stray and of noisy points
 second streams SEED COUNT                       holds COUNT streams of Payload B against the whole form and against single steps, and COUNT single steps against what a sound state is; 'N passed, M failed'
 second astray SEED COUNT [CODES]                counts words with more than t hits that are refused, and that are mended into another codeword
 second numbers                                  checks document 01's numbers, the frame check's by request 6
 second field                                    writes all products and inverses of GF(512)
 second points                                   writes all points, and the label of every point near them
-JOBS is a string of job digits, such as 2 or 56, with 9 for streams and g for 16, single steps; without it, 123456. CODES likewise, of 123; without it, all three.";
+JOBS is a string of job digits, such as 2 or 56, with 7 and 8 for decisions, 9 for streams and g for 16, single steps; without it, 123456. CODES likewise, of 123; without it, all three.";
 
 fn main() -> ExitCode {
     let args: Vec<String> = std::env::args().skip(1).collect();
@@ -49,6 +50,8 @@ fn run(args: &[String]) -> io::Result<bool> {
             let command = command_alone(rest)?;
             earlier::earlier(number(seed)?, number(count)?, &command, &mut out)?
         }
+        ["grids"] => regions::grids(None, &mut out)?,
+        ["grids", ref rest @ ..] => regions::grids(Some(&command_alone(rest)?), &mut out)?,
         ["streams", seed, count] => streamed::streams(number(seed)?, number(count)?, &mut out)?,
         ["numbers"] => numbers::numbers(&mut out)?,
         _ => match write(&words, &mut out).and_then(|()| out.flush()) {
@@ -112,7 +115,7 @@ fn number(word: &str) -> io::Result<u64> {
 
 /// The jobs of a string of digits; jobs 1 to 6 if there is none.
 fn jobs_of(words: &[&str]) -> io::Result<Vec<u8>> {
-    digits_of(words, "123456", "1234569g")
+    digits_of(words, "123456", "123456789g")
 }
 
 /// The numbers of a string of digits, each one of these, beyond 9 letters: g is 16. Without a string, some are meant.

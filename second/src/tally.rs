@@ -1,9 +1,10 @@
 //! What the requests of a seed bring up: each refusal number of each job and its places; of the words, bursts and
 //! frames that came as far as the decoder, by code or mode, how many, which counts, which blocks were the worst, and
-//! which lists of mended places; the protected bits that differed; the kinds of stray points; and what streams were
-//! answered.
+//! which lists of mended places; the protected bits that differed; the kinds of stray points; the kinds of noisy points
+//! that were decided; and what streams were answered.
 
 mod lists;
+mod noisy;
 pub mod protected;
 mod strays;
 mod streams;
@@ -13,6 +14,7 @@ use crate::answer::{Answer, Refusal, NUMBERS};
 use crate::trial::{Request, JOBS};
 use crate::{again, hostile};
 use lists::Lists;
+use noisy::Noisy;
 use protected::Protected;
 use std::collections::{BTreeMap, BTreeSet};
 use std::fmt;
@@ -23,15 +25,17 @@ use worst::Worst;
 #[derive(Default)]
 pub struct Tally {
     /// How often, by job - 1 and number.
-    pub seen: [[u64; NUMBERS]; 6],
+    pub seen: [[u64; NUMBERS]; JOBS.len()],
     /// At which places, by job - 1 and number.
-    places: [[BTreeSet<u64>; NUMBERS]; 6],
+    places: [[BTreeSet<u64>; NUMBERS]; JOBS.len()],
     /// What came as far as the decoder, by job and by code or mode.
     pub reached: BTreeMap<(u8, u8), Reached>,
     /// The bursts of Payload A that came as far as their protected bits.
     pub protected: Protected,
     /// The stray points that were refused.
     pub strays: Strays,
+    /// The noisy points that were decided.
+    pub noisy: Noisy,
     /// Jobs 9 and 16, which stand in none of the others.
     pub streams: Streams,
 }
@@ -92,6 +96,14 @@ impl Tally {
         if let Err(Refusal::Stray(index)) = *answer {
             self.strays.add(request, index);
         }
+        if matches!(job, 7 | 8) && number == 0 {
+            self.noisy.add(request);
+        }
+    }
+
+    /// The jobs that have a row: 7 and 8 only if they came.
+    fn rows(&self) -> impl Iterator<Item = usize> + '_ {
+        (0..JOBS.len()).filter(|&job| job < 6 || self.seen[job].iter().any(|&count| count > 0))
     }
 }
 
@@ -102,15 +114,15 @@ impl fmt::Display for Tally {
             (0..NUMBERS).try_for_each(|number| write!(f, "{number:>8}"))
         };
         head(f, "number")?;
-        for (job, seen) in JOBS.iter().zip(&self.seen) {
-            write!(f, "\n{job:12}")?;
-            seen.iter().try_for_each(|count| write!(f, "{count:>8}"))?;
+        for job in self.rows() {
+            write!(f, "\n{:12}", JOBS[job])?;
+            self.seen[job].iter().try_for_each(|count| write!(f, "{count:>8}"))?;
         }
         writeln!(f)?;
         head(f, "places")?;
-        for (job, places) in JOBS.iter().zip(&self.places) {
-            write!(f, "\n{job:12}")?;
-            places.iter().try_for_each(|places| write!(f, "{:>8}", places.len()))?;
+        for job in self.rows() {
+            write!(f, "\n{:12}", JOBS[job])?;
+            self.places[job].iter().try_for_each(|places| write!(f, "{:>8}", places.len()))?;
         }
         for ((job, choice), reached) in &self.reached {
             let name = JOBS[*job as usize - 1];
@@ -129,7 +141,7 @@ impl fmt::Display for Tally {
             }
             write!(f, "{}", reached.lists)?;
         }
-        write!(f, "{}{}{}", self.protected, self.strays, self.streams)
+        write!(f, "{}{}{}{}", self.protected, self.strays, self.noisy, self.streams)
     }
 }
 
@@ -167,6 +179,15 @@ mod tests {
             .map(|&job| [0, 9, 10].iter().map(|&number: &usize| tally.seen[job][number]).sum::<u64>())
             .sum();
         assert_eq!(reached, decoded);
+        assert_eq!(Tally::of(1, 300, &[2, 7, 8]).seen.iter().flatten().sum::<u64>(), 300);
+    }
+
+    #[test]
+    fn only_jobs_that_came_have_further_rows() {
+        let lines = |jobs| Tally::of(1, 100, jobs).to_string();
+        assert!(!lines(&[1, 2, 3, 4, 5, 6]).contains("decide"));
+        assert!(lines(&[7]).contains("decide A") && !lines(&[7]).contains("decide B"));
+        assert!(lines(&[1, 8]).contains("decide B") && !lines(&[1, 8]).contains("decide A"));
     }
 
     #[test]

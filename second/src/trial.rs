@@ -4,14 +4,16 @@
 //! mended places are always 16 entries of two bytes, with no count. An unknown job, a list too long for its buffer, a
 //! state of a wrong length or a cut request ends the run after the responses so far.
 //!
-//! Two jobs are beyond that head's six:
+//! Four jobs are beyond the first six:
 //!
+//! - 7, decide A: mode (1 byte), I, Q, out I, out Q. The response has number, place, out I, out Q.
+//! - 8, decide B: mode (1 byte), frame length (8), scheme, I, Q, out I, out Q. The response is that of 7.
 //! - 9, stream B: mode (1 byte), frame length (8), scheme, area, count of calls (4), for each call I and Q. The
 //!   response has number and place of the opening, then of each call number, place, mended, worst, the area after it.
 //! - 16, step B: state (a list of 326 bytes), I, Q, area. The response has number, place, mended, worst, state, area.
 
 use crate::answer::{Answer, Counts};
-use crate::{bch, payload_a, payload_b, state_b, stream_b};
+use crate::{bch, decide, payload_a, payload_b, state_b, stream_b};
 use std::io::{self, Read, Write};
 
 /// The longest list of bits, bytes or scheme entries.
@@ -29,6 +31,8 @@ pub enum Request {
     ReceiveA { mode: u8, i: Vec<i16>, q: Vec<i16>, area: Vec<u8> },
     SendB { mode: u8, frame: Vec<u8>, scheme: Vec<u8>, i: Vec<i16>, q: Vec<i16> },
     ReceiveB { mode: u8, length: u64, scheme: Vec<u8>, i: Vec<i16>, q: Vec<i16>, area: Vec<u8> },
+    DecideA { mode: u8, i: Vec<i16>, q: Vec<i16>, out_i: Vec<i16>, out_q: Vec<i16> },
+    DecideB { mode: u8, length: u64, scheme: Vec<u8>, i: Vec<i16>, q: Vec<i16>, out_i: Vec<i16>, out_q: Vec<i16> },
     StreamB { mode: u8, length: u64, scheme: Vec<u8>, area: Vec<u8>, calls: Vec<Call> },
     StepB { state: Vec<u8>, i: Vec<i16>, q: Vec<i16>, area: Vec<u8> },
 }
@@ -51,11 +55,11 @@ const WORST: Count = ("worst", |counts| counts.worst);
 /// The counts of an answer of Payload B, of each call of a stream too.
 pub const OF_B: [Count; 2] = [MENDED, WORST];
 
-/// The names of jobs 1 to 6.
-pub const JOBS: [&str; 6] = ["encode", "decode", "send A", "receive A", "send B", "receive B"];
+/// The names of jobs 1 to 8.
+pub const JOBS: [&str; 8] = ["encode", "decode", "send A", "receive A", "send B", "receive B", "decide A", "decide B"];
 
 impl Request {
-    /// Job 1 to 6, 9 or 16.
+    /// Job 1 to 9, or 16.
     pub fn job(&self) -> u8 {
         match self {
             Request::Encode { .. } => 1,
@@ -64,6 +68,8 @@ impl Request {
             Request::ReceiveA { .. } => 4,
             Request::SendB { .. } => 5,
             Request::ReceiveB { .. } => 6,
+            Request::DecideA { .. } => 7,
+            Request::DecideB { .. } => 8,
             Request::StreamB { .. } => 9,
             Request::StepB { .. } => 16,
         }
@@ -105,6 +111,8 @@ impl Request {
             | Request::ReceiveA { mode, .. }
             | Request::SendB { mode, .. }
             | Request::ReceiveB { mode, .. }
+            | Request::DecideA { mode, .. }
+            | Request::DecideB { mode, .. }
             | Request::StreamB { mode, .. } => *mode,
             Request::StepB { state, .. } => state_b::State::of_bytes(state).map_or(0, |state| state.mode),
         }
@@ -121,6 +129,10 @@ impl Request {
             Request::SendB { mode, frame, scheme, i, q } => payload_b::send(*mode, frame, scheme, i, q),
             Request::ReceiveB { mode, length, scheme, i, q, area } => {
                 payload_b::receive(*mode, *length, scheme, i, q, area)
+            }
+            Request::DecideA { mode, i, q, out_i, out_q } => decide::decide_a(*mode, i, q, out_i, out_q),
+            Request::DecideB { mode, length, scheme, i, q, out_i, out_q } => {
+                decide::decide_b(*mode, *length, scheme, i, q, out_i, out_q)
             }
             Request::StreamB { mode, length, scheme, area, calls } => {
                 let mut stream = stream_b::open(*mode, *length, scheme);
@@ -171,6 +183,16 @@ impl Request {
                 put_levels(&mut to, q);
                 put_bytes(&mut to, area);
             }
+            Request::DecideA { mode, i, q, out_i, out_q } => {
+                to.push(*mode);
+                [i, q, out_i, out_q].into_iter().for_each(|list| put_levels(&mut to, list));
+            }
+            Request::DecideB { mode, length, scheme, i, q, out_i, out_q } => {
+                to.push(*mode);
+                to.extend(length.to_le_bytes());
+                put_bytes(&mut to, scheme);
+                [i, q, out_i, out_q].into_iter().for_each(|list| put_levels(&mut to, list));
+            }
             Request::StreamB { mode, length, scheme, area, calls } => {
                 to.push(*mode);
                 to.extend(length.to_le_bytes());
@@ -207,6 +229,10 @@ pub fn response(after: &Request, answer: Answer) -> Vec<u8> {
         Request::SendA { i, q, .. } | Request::SendB { i, q, .. } => {
             put_levels(&mut to, i);
             put_levels(&mut to, q);
+        }
+        Request::DecideA { out_i, out_q, .. } | Request::DecideB { out_i, out_q, .. } => {
+            put_levels(&mut to, out_i);
+            put_levels(&mut to, out_q);
         }
         Request::StreamB { calls, .. } => {
             for (answer, area) in calls.iter().filter_map(|call| call.after.as_ref()) {
@@ -253,7 +279,7 @@ pub fn read_request(from: &mut impl Read) -> Option<Request> {
         state_b::State::of_bytes(&state)?;
         return Some(Request::StepB { state, i: levels(from)?, q: levels(from)?, area: bytes(from)? });
     }
-    if !matches!(job, 1..=6 | 9) {
+    if !matches!(job, 1..=9) {
         return None;
     }
     let mode = byte(from)?;
@@ -270,6 +296,16 @@ pub fn read_request(from: &mut impl Read) -> Option<Request> {
             i: levels(from)?,
             q: levels(from)?,
             area: bytes(from)?,
+        },
+        7 => Request::DecideA { mode, i: levels(from)?, q: levels(from)?, out_i: levels(from)?, out_q: levels(from)? },
+        8 => Request::DecideB {
+            mode,
+            length: u64::from_le_bytes(exactly(from)?),
+            scheme: bytes(from)?,
+            i: levels(from)?,
+            q: levels(from)?,
+            out_i: levels(from)?,
+            out_q: levels(from)?,
         },
         _ => Request::StreamB {
             mode,
@@ -475,6 +511,44 @@ mod tests {
     }
 
     #[test]
+    fn bytes_of_a_decide_a_by_hand() {
+        // All +1 but s(1), at 151, which came as (-3,-64), and s(210) of the second symbol, at 361, as (-1,1).
+        let (mut i, mut q) = (vec![60i16; 513], vec![-4i16; 512]);
+        ((i[151], q[151]), (i[361], q[361])) = ((-3, -64), (-1, 1));
+        let mut request = vec![7, 1];
+        [i, q, vec![8; 512], vec![9; 514]].iter().for_each(|list| put_levels(&mut request, list));
+        let each = |available: i16| (0..512).map(|n| crate::grid::held_by(n % 256).map_or(0, |_| available)).collect();
+        let (mut out_i, mut out_q): (Vec<i16>, Vec<i16>) = (each(1), each(0));
+        ((out_i[151], out_q[151]), (out_i[361], out_q[361])) = ((0, -1), (0, 1));
+        out_q.extend([9, 9]);
+        let mut response = vec![0; 9];
+        [out_i, out_q].iter().for_each(|list| put_levels(&mut response, list));
+        assert_eq!(ran(&request), response);
+        // An unknown mode: the lists as they were.
+        let request = [&[7, 2][..], &[0; 8], &[1, 0, 0, 0, 254, 255], &[0; 4]].concat();
+        assert_eq!(ran(&request), [&[1][..], &[0; 8], &[1, 0, 0, 0, 254, 255], &[0; 4]].concat());
+    }
+
+    #[test]
+    fn bytes_of_a_decide_b_by_hand() {
+        // A byte of 8QAM: one symbol, all in the middle but s(106), at 1, which came from the corner of the range.
+        let (mut i, mut q) = (vec![0i16; 256], vec![0i16; 256]);
+        (i[1], q[1], i[0], q[150]) = (i16::MIN, i16::MAX, 5, -5);
+        let mut request = [&[8, 0, 1, 0, 0, 0, 0, 0, 0, 0, 210, 0, 0, 0][..], &[3; 210]].concat();
+        [i, q, vec![8; 257], vec![9; 256]].iter().for_each(|list| put_levels(&mut request, list));
+        let mut out_i: Vec<i16> = (0..256).map(|n| crate::grid::held_by(n).map_or(0, |_| 2)).collect();
+        let mut out_q = vec![0; 256];
+        (out_i[1], out_q[1]) = (-2, 2);
+        out_i.push(8);
+        let mut response = vec![0; 9];
+        [out_i, out_q].iter().for_each(|list| put_levels(&mut response, list));
+        assert_eq!(ran(&request), response);
+        // No scheme: 5 at place 210, and the lists as they were.
+        let request = [&[8, 0, 1][..], &[0; 7], &[0; 4], &[0; 8], &[0; 4], &[1, 0, 0, 0, 254, 255]].concat();
+        assert_eq!(ran(&request), [&[5, 210][..], &[0; 7], &[0; 4], &[1, 0, 0, 0, 254, 255]].concat());
+    }
+
+    #[test]
     fn bytes_of_a_step_by_hand() {
         // A state that holds 9 at place 258, and nothing else that is right.
         let state = [&[7; 317][..], &[9, 2, 1], &[0; 6]].concat();
@@ -491,7 +565,7 @@ mod tests {
     #[test]
     fn requests_are_read_as_they_were_written() {
         for index in 0..300 {
-            let request = crate::hostile::request(5, index, &[1, 2, 3, 4, 5, 6, 9, 16]);
+            let request = crate::hostile::request(5, index, &[1, 2, 3, 4, 5, 6, 7, 8, 9, 16]);
             assert_eq!(read_request(&mut &request.to_bytes()[..]), Some(request));
         }
     }
@@ -501,7 +575,7 @@ mod tests {
         let good = Request::Encode { code: 0, word: vec![], out: vec![] }.to_bytes();
         let once = ran(&good);
         assert_eq!(ran(&[]), []);
-        for job in (0..=255).filter(|job| !matches!(job, 1..=6 | 9 | 16)) {
+        for job in (0..=255).filter(|job| !matches!(job, 1..=9 | 16)) {
             assert_eq!(ran(&[&good, &[job][..], &good].concat()), once);
         }
         for cut in 1..good.len() {
@@ -515,5 +589,20 @@ mod tests {
         assert_eq!(ran(&[&good, &send(MOST_POINTS + 1, 0), &good[..]].concat()), once);
         assert_eq!(ran(&[&good, &send(0, MOST_POINTS + 1), &good[..]].concat()), once);
         assert!(ran(&send(MOST_POINTS, MOST_POINTS)).len() > 4 * MOST_POINTS);
+        for list in 0..4 {
+            let decide = |count: usize| {
+                let mut lists = [const { Vec::new() }; 4];
+                lists[list] = vec![0; count];
+                let [i, q, out_i, out_q] = lists;
+                let (mode, length, scheme) = (9, 0, vec![]);
+                let a =
+                    Request::DecideA { mode, i: i.clone(), q: q.clone(), out_i: out_i.clone(), out_q: out_q.clone() };
+                [a, Request::DecideB { mode, length, scheme, i, q, out_i, out_q }].map(|request| request.to_bytes())
+            };
+            assert!(decide(MOST_POINTS + 1).iter().all(|long| ran(&[&good, &long[..], &good].concat()) == once));
+            assert!(decide(MOST_POINTS)
+                .iter()
+                .all(|most| ran(&[&good, &most[..], &good].concat()).len() > 2 * once.len()));
+        }
     }
 }

@@ -46,14 +46,20 @@ pub fn cable() -> String {
 }
 
 /// What is asked, a line each; where no row tells of it, none.
-pub fn print(all: &[Timed], streams: &[Streamed]) {
-    let lines =
-        [beside_second(all, streams), beside_the_cable(all), among_many(all), by_steps(streams), a_step(streams)];
+pub fn print(all: &[Timed], streams: &[Streamed], decisions: &[Timed]) {
+    let lines = [
+        beside_second(all, streams, decisions),
+        beside_the_cable(all),
+        among_many(all),
+        by_steps(streams),
+        a_step(streams),
+        deciding(decisions),
+    ];
     lines.into_iter().flatten().for_each(|line| println!("- {line}"));
 }
 
-fn beside_second(all: &[Timed], streams: &[Streamed]) -> Option<String> {
-    let timed = all.iter().chain(streams.iter().map(|streamed| &streamed.timed));
+fn beside_second(all: &[Timed], streams: &[Streamed], decisions: &[Timed]) -> Option<String> {
+    let timed = all.iter().chain(streams.iter().map(|streamed| &streamed.timed)).chain(decisions);
     let (quotient, row) = largest(timed.map(|timed| (timed.quotient(), &timed.row)))?;
     Some(format!("ours / second is at most {quotient:.2}: {}", row.whole()))
 }
@@ -66,6 +72,12 @@ fn by_steps(streams: &[Streamed]) -> Option<String> {
 fn a_step(streams: &[Streamed]) -> Option<String> {
     let (time, row) = largest(streams.iter().map(|streamed| (streamed.slowest, &streamed.timed.row)))?;
     Some(format!("a single step takes at most {} ns: {}", grouped(time), row.whole()))
+}
+
+fn deciding(decisions: &[Timed]) -> Option<String> {
+    let (time, row) = largest(decisions.iter().map(|timed| (timed.a_symbol(), &timed.row)))?;
+    let cable = grouped(CABLE);
+    Some(format!("deciding a symbol takes at most {} ns of the cable's {cable}: {}", grouped(time), row.whole()))
 }
 
 fn beside_the_cable(all: &[Timed]) -> Option<String> {

@@ -4,6 +4,7 @@
 //! `speed [PART]`: only the rows whose name contains PART, such as "code 2" or "mode 0, mixed, send".
 
 mod asked;
+mod decisions;
 mod grids;
 #[cfg(feature = "linux")]
 mod linux;
@@ -22,7 +23,7 @@ use streams::Streamed;
 /// Rounds over all inputs of a row.
 const ROUNDS: usize = 60;
 
-/// The first columns of both tables.
+/// The first columns of the tables but those of streams and of deciding.
 const COLUMNS: &str = "| of | call | ours, ns | second, ns | ours / second |";
 
 fn main() {
@@ -37,6 +38,7 @@ fn main() {
         "- Payload B: {} OFDM symbols a row, in groups of {GROUP}, or of one call where it has more",
         grids::SYMBOLS
     );
+    println!("- deciding: {} OFDM symbols a row, in groups of {GROUP}", decisions::SYMBOLS);
     println!("- answers and buffers compared call by call; no buffer is cleared between calls\n");
     println!("{COLUMNS}\n|---|---|---|---|---|");
     let mut all = table(rows::all().filter(named), Timed::line);
@@ -46,8 +48,10 @@ fn main() {
     all.extend(table(grids::all().filter(named), Timed::line_of_symbols));
     println!("\n{}", streams::COLUMNS);
     let streams: Vec<Streamed> = grids::streams().filter(named).map(streamed).collect();
+    println!("\n{}", decisions::COLUMNS);
+    let decisions = table(decisions::all().filter(named), decisions::line);
     println!();
-    asked::print(&all, &streams);
+    asked::print(&all, &streams, &decisions);
 }
 
 /// A row of streams compared first and then timed, and its line of the table.

@@ -4,7 +4,7 @@
 use crate::rows::{Answer, Input, Memory};
 use second::grid::CARRIERS;
 
-/// What encode, decode and send answer.
+/// What encode, decode, send and decide answer.
 #[repr(C)]
 struct Told {
     number: u32,
@@ -87,6 +87,31 @@ extern "C" {
         area: *mut u8,
         room: usize,
     ) -> ReceivedTold;
+    fn ortkaveq_decide_a(
+        mode: u8,
+        i: *const i16,
+        i_length: usize,
+        q: *const i16,
+        q_length: usize,
+        out_i: *mut i16,
+        i_room: usize,
+        out_q: *mut i16,
+        q_room: usize,
+    ) -> Told;
+    fn ortkaveq_decide_b(
+        mode: u8,
+        size: usize,
+        scheme: *const u8,
+        entries: usize,
+        i: *const i16,
+        i_length: usize,
+        q: *const i16,
+        q_length: usize,
+        out_i: *mut i16,
+        i_room: usize,
+        out_q: *mut i16,
+        q_room: usize,
+    ) -> Told;
 }
 
 /// The bytes of a stream's state, at the same place in its cache lines in every run. They are ours alone: second keeps its
@@ -206,6 +231,43 @@ pub fn step_b(i: &[i16], q: &[i16], memory: &mut Memory) -> Answer {
     let (stream, area) = (&mut memory.stream, &mut memory.bytes);
     received(unsafe {
         ortkaveq_step_b(stream, i.as_ptr(), i.len(), q.as_ptr(), q.len(), area.as_mut_ptr(), area.len())
+    })
+}
+
+pub fn decide_a(input: &Input, memory: &mut Memory) -> Answer {
+    let (i, q, out_i, out_q) = (&input.i, &input.q, &mut memory.i, &mut memory.q);
+    told(unsafe {
+        ortkaveq_decide_a(
+            input.number,
+            i.as_ptr(),
+            i.len(),
+            q.as_ptr(),
+            q.len(),
+            out_i.as_mut_ptr(),
+            out_i.len(),
+            out_q.as_mut_ptr(),
+            out_q.len(),
+        )
+    })
+}
+
+pub fn decide_b(input: &Input, memory: &mut Memory) -> Answer {
+    let (scheme, i, q, out_i, out_q) = (&input.scheme, &input.i, &input.q, &mut memory.i, &mut memory.q);
+    told(unsafe {
+        ortkaveq_decide_b(
+            input.number,
+            input.size,
+            scheme.as_ptr(),
+            scheme.len(),
+            i.as_ptr(),
+            i.len(),
+            q.as_ptr(),
+            q.len(),
+            out_i.as_mut_ptr(),
+            out_i.len(),
+            out_q.as_mut_ptr(),
+            out_q.len(),
+        )
     })
 }
 

@@ -17,7 +17,7 @@ const BYTES: usize = 67_200 + 64;
 const POINTS: usize = 256 * 256 + 64;
 
 /// What is passed: a code's or mode's number, and a word, a frame, or the points of a frame; for Payload B a scheme too,
-/// and for receiving it the frame's size in bytes.
+/// and for deciding and receiving it the frame's size in bytes.
 #[derive(Default)]
 pub struct Input {
     pub number: u8,
@@ -67,7 +67,7 @@ pub type Call = fn(&Input, &mut Memory) -> Answer;
 pub struct Row {
     pub of: String,
     pub name: String,
-    /// OFDM symbols that a call sends or receives; 0 where it does neither.
+    /// OFDM symbols that a call sends, decides or receives; 0 where it does none of these.
     pub symbols: usize,
     pub ours: Call,
     pub theirs: Call,

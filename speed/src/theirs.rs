@@ -2,7 +2,7 @@
 
 use crate::rows::{Answer, Input, Memory};
 use second::answer::Counts;
-use second::{answer, bch, grid, payload_a, payload_b, stream_b};
+use second::{answer, bch, decide, grid, payload_a, payload_b, stream_b};
 
 pub fn encode(input: &Input, memory: &mut Memory) -> Answer {
     told(bch::encode(input.number, &input.bytes, &mut memory.bytes))
@@ -35,6 +35,15 @@ pub fn stream_b(input: &Input, memory: &mut Memory) -> Answer {
     let symbols = input.i.chunks(grid::CARRIERS).zip(input.q.chunks(grid::CARRIERS));
     let last = symbols.map(|(i, q)| stream.step(i, q, &mut memory.bytes)).last();
     last.map_or(Answer::default(), told)
+}
+
+pub fn decide_a(input: &Input, memory: &mut Memory) -> Answer {
+    told(decide::decide_a(input.number, &input.i, &input.q, &mut memory.i, &mut memory.q))
+}
+
+pub fn decide_b(input: &Input, memory: &mut Memory) -> Answer {
+    let size = input.size as u64;
+    told(decide::decide_b(input.number, size, &input.scheme, &input.i, &input.q, &mut memory.i, &mut memory.q))
 }
 
 pub fn symbols_b(input: &Input, _: &mut Memory) -> Answer {

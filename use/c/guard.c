@@ -341,15 +341,16 @@ static void hits_b(size_t mode)
     }
 }
 
-/* The same refusal by all four calls, and by a step of the stream that holds it. */
+/* The same refusal by all five calls, and by a step of the stream that holds it. */
 #define REFUSE_B(number, place, mode, size) \
     (REFUSE(number, place, run(SYMBOLS_B, mode, size)), REFUSE(number, place, with(&frame, size, SEND_B, mode, 0)), \
-     REFUSE(number, place, run(RECEIVE_B, mode, size)), REFUSE(number, place, run(OPEN_B, mode, size)), REFUSE(number, place, step(0, 0)))
+     REFUSE(number, place, run(DECIDE_B, mode, size)), REFUSE(number, place, run(RECEIVE_B, mode, size)), \
+     REFUSE(number, place, run(OPEN_B, mode, size)), REFUSE(number, place, step(0, 0)))
 
 /* Schemes, and then sizes too, that are wrong, with lists of this length. */
 static void refused_b(size_t length)
 {
-    i.length = q.length = area.length = length;
+    i.length = q.length = out_i.length = out_q.length = area.length = length;
     set_scheme(2);
     EACH(place, 209, 100, 0)
         EACH(entry, 1, 11) {
@@ -534,6 +535,97 @@ static void forged(size_t mode, size_t count)
     }
 }
 
+/* ---- Deciding: points that were sent, in sixty-fourths of a level and moved */
+
+enum { MARGIN_A = 31, MARGIN_B = 63 }; /* as far as both levels of a point can be moved, and it is decided to what was sent */
+
+static struct list clean_i, clean_q;
+
+/* How far the n-th level is moved: up to so many sixty-fourths, down or up, as far as that too. */
+static int moved(size_t n, int most) { return (int)(37 * n % (2 * (size_t)most + 1)) - most; }
+
+/* Sends a frame, and moves its points. Unavailable sub-carriers are not empty. */
+static void sent_noisy(enum job send, size_t mode, size_t size, size_t levels, int most)
+{
+    sent(send, mode, size, levels);
+    clean_i = i, clean_q = q;
+    for (size_t n = 0; n < levels; n++)
+        i.levels[n] = INT16_MIN, q.levels[n] = INT16_MAX;
+    for (size_t s = 1; s <= levels / ORTKAVEQ_SYMBOL * POINTS; s++) {
+        size_t at = index_of(s);
+        i.levels[at] = (int16_t)(ORTKAVEQ_PARTS * clean_i.levels[at] + moved(s, most));
+        q.levels[at] = (int16_t)(ORTKAVEQ_PARTS * clean_q.levels[at] + moved(s / 2, most));
+    }
+    needed = levels;
+}
+
+/* The first levels that were decided are those that were sent, from one on. */
+static bool as_sent(size_t from)
+{
+    size_t bytes = needed * sizeof(int16_t);
+    return memcmp(out_i.levels, clean_i.levels + from, bytes) == 0 && memcmp(out_q.levels, clean_q.levels + from, bytes) == 0;
+}
+
+/* Noisy points are decided in room enough and in more, what was decided is received, and each of the four lists may be too short. */
+static void decided(enum job decide, enum job receive, size_t mode, size_t size)
+{
+    struct list *const lists[] = {&i, &q, &out_i, &out_q};
+    EACH(more, MORE, 0) {
+        for (size_t n = 0; n < 4; n++)
+            lists[n]->length = needed + (n + 1) * *more;
+        ACCEPT(0, run(decide, mode, size));
+        HOLD(as_sent(0));
+    }
+    i = out_i, q = out_q;
+    ACCEPT(0, run(receive, mode, size));
+    HOLD(same(&area, &frame, size));
+    for (size_t n = 0; n < 4; n++)
+        EACH(less, 0, needed - 1)
+            REFUSE(ORTKAVEQ_NO_ROOM, 0, with(lists[n], *less, decide, mode, size));
+}
+
+static bool is_legal(struct told answer) { return answer.number != ORTKAVEQ_FILLED && answer.number != ORTKAVEQ_STRAY_POINT; }
+
+/* Any levels are decided, to points that are legal. */
+static void decided_any(enum job decide, enum job receive, size_t mode, size_t size)
+{
+    fill(&i, needed * sizeof(int16_t), 256), fill(&q, needed * sizeof(int16_t), 256);
+    i.length = q.length = out_i.length = out_q.length = needed;
+    ACCEPT(0, run(decide, mode, size));
+    i = out_i, q = out_q;
+    HOLD(is_legal(run(receive, mode, size)));
+}
+
+static void decided_a(size_t mode, size_t size)
+{
+    sent_noisy(SEND_A, mode, size, LEVELS, MARGIN_A);
+    decided(DECIDE_A, RECEIVE_A, mode, size);
+    decided_any(DECIDE_A, RECEIVE_A, mode, size);
+}
+
+/* Each OFDM symbol of a noisy frame by itself, as for a stream: in mode 0 a byte needs one. */
+static void decided_singly(size_t symbols)
+{
+    sent_i = i, sent_q = q;
+    out_i.length = out_q.length = needed = ORTKAVEQ_SYMBOL;
+    for (size_t n = 0; n < symbols; n++) {
+        symbol(n, n % 2);
+        ACCEPT(0, run(DECIDE_B, 0, 1));
+        HOLD(as_sent(n * ORTKAVEQ_SYMBOL));
+    }
+    i = sent_i, q = sent_q, needed = symbols * ORTKAVEQ_SYMBOL;
+}
+
+/* A frame of so many blocks. */
+static void decided_b(size_t mode, size_t count, size_t bits)
+{
+    size_t sum = set_scheme(bits), size = count * blocks[mode].bytes, symbols = (count * blocks[mode].bits + sum - 1) / sum;
+    sent_noisy(SEND_B, mode, size, symbols * ORTKAVEQ_SYMBOL, MARGIN_B);
+    decided_singly(symbols);
+    decided(DECIDE_B, RECEIVE_B, mode, size);
+    decided_any(DECIDE_B, RECEIVE_B, mode, size);
+}
+
 /* Document 01's counts, and sizes that no frame has. */
 static void counts_b(void)
 {
@@ -542,6 +634,7 @@ static void counts_b(void)
     for (size_t mode = 0; mode <= 2; mode++)
         largest_b(mode, ORTKAVEQ_LEAST_BITS, sizes[0][mode]), largest_b(mode, ORTKAVEQ_MOST_BITS, sizes[1][mode]);
     REFUSE(ORTKAVEQ_TOO_MANY_SYMBOLS, 0, run(SYMBOLS_B, 0, SIZE_MAX));
+    REFUSE(ORTKAVEQ_TOO_MANY_SYMBOLS, 0, run(DECIDE_B, 0, SIZE_MAX));
     REFUSE(ORTKAVEQ_TOO_MANY_SYMBOLS, 0, run(RECEIVE_B, 0, SIZE_MAX));
     set_scheme(2);
     ACCEPT(2, run(SYMBOLS_B, 2, ORTKAVEQ_B_BYTES2));
@@ -552,15 +645,15 @@ static void counts_b(void)
 /* Codes and modes that there are not, with lists of this length. */
 static void unknown(size_t length)
 {
-    word.length = out.length = frame.length = scheme.length = area.length = i.length = q.length = length;
+    word.length = out.length = frame.length = scheme.length = area.length = i.length = q.length = out_i.length = out_q.length = length;
     EACH(code, 0, 4, 255)
         EACH(job, ENCODE, DECODE)
             REFUSE(ORTKAVEQ_UNKNOWN, 0, run(*job, *code, length));
     EACH(mode, 2, 3, 255)
-        EACH(job, SEND_A, RECEIVE_A)
+        EACH(job, SEND_A, DECIDE_A, RECEIVE_A)
             REFUSE(ORTKAVEQ_UNKNOWN, 0, run(*job, *mode, length));
     EACH(mode, 3, 4, 255)
-        EACH(job, SYMBOLS_B, SEND_B, RECEIVE_B, OPEN_B)
+        EACH(job, SYMBOLS_B, SEND_B, DECIDE_B, RECEIVE_B, OPEN_B)
             REFUSE(ORTKAVEQ_UNKNOWN, 0, run(*job, *mode, length));
 }
 
@@ -588,6 +681,13 @@ static void everything(void)
             hit_stream(*mode, *hopeless);
     EACH(mode, 1, 2)
         forged(*mode, 3);
+    decided_a(0, ORTKAVEQ_A_BYTES0);
+    decided_a(1, ORTKAVEQ_A_BYTES1);
+    for (size_t mode = 0; mode <= 2; mode++)
+        EACH(bits, 2, 3, 4, 5, 6, 7, 8, 9, 10, 0)
+            EACH(count, 1, 20)
+                decided_b(mode, *count, *bits);
+    decided_b(0, ORTKAVEQ_MOST_BYTES, ORTKAVEQ_MOST_BITS);
     EACH(length, 0, 600)
         refused_b(*length), unknown(*length);
     counts_b();

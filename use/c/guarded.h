@@ -33,20 +33,23 @@ struct list {
 
 static struct list word = {.width = 1}, out = {.width = 1}, frame = {.width = 1}, scheme = {.width = 1}, area = {.width = 1};
 static struct list i = {.width = sizeof(int16_t)}, q = {.width = sizeof(int16_t)};
+static struct list out_i = {.width = sizeof(int16_t)}, out_q = {.width = sizeof(int16_t)};
 /* Of places: in a word or in the first half, and in the second. */
 static struct list first = {.length = ORTKAVEQ_PLACES, .width = sizeof(uint16_t)}, second = {.length = ORTKAVEQ_PLACES, .width = sizeof(uint16_t)};
 static struct list stream = {.length = 1, .width = sizeof(struct ortkaveq_stream)};
 
-enum job { ENCODE, DECODE, SEND_A, RECEIVE_A, SYMBOLS_B, SEND_B, RECEIVE_B, OPEN_B, STEP_B };
+enum job { ENCODE, DECODE, SEND_A, DECIDE_A, RECEIVE_A, SYMBOLS_B, SEND_B, DECIDE_B, RECEIVE_B, OPEN_B, STEP_B };
 
 /* The lists of each job, and how many of them, the first ones, it only reads. */
 static const struct { struct list *lists[6]; int read; } jobs[] = {
     [ENCODE] = {{&word, &out}, 1},
     [DECODE] = {{&word, &out, &first}, 1},
     [SEND_A] = {{&frame, &i, &q}, 1},
+    [DECIDE_A] = {{&i, &q, &out_i, &out_q}, 2},
     [RECEIVE_A] = {{&i, &q, &area, &first, &second}, 2},
     [SYMBOLS_B] = {{&scheme}, 1},
     [SEND_B] = {{&frame, &scheme, &i, &q}, 2},
+    [DECIDE_B] = {{&scheme, &i, &q, &out_i, &out_q}, 3},
     [RECEIVE_B] = {{&scheme, &i, &q, &area}, 3},
     [OPEN_B] = {{&scheme, &stream}, 1},
     [STEP_B] = {{&i, &q, &stream, &area}, 2},
@@ -55,8 +58,9 @@ static const struct { struct list *lists[6]; int read; } jobs[] = {
 /* An answer; the count is of bits mended, or of OFDM symbols. */
 struct told { size_t number, place, count, fields, worst; };
 
-static bool behind; /* whether lists end at the page that cannot be touched, or begin at it */
-static int line;    /* of guard.c, where something is expected just now */
+static bool behind;   /* whether lists end at the page that cannot be touched, or begin at it */
+static int line;      /* of guard.c, where something is expected just now */
+static size_t needed; /* elements of each list that deciding reads, and of each that it writes */
 static long calls;
 
 #define FAIL(...) (printf("guard.c:%d: expected ", line), printf(__VA_ARGS__), puts(behind ? ", where lists end" : ", where lists begin"), exit(EXIT_FAILURE))
@@ -118,9 +122,11 @@ static struct told call(enum job job, uint8_t mode, size_t size)
     case ENCODE: return told(ortkaveq_encode(mode, LIST(word), LIST(out)));
     case DECODE: return told(ortkaveq_decode(mode, LIST(word), LIST(out), (void *)first.at));
     case SEND_A: return told(ortkaveq_send_a(mode, LIST(frame), LIST(i), LIST(q)));
+    case DECIDE_A: return told(ortkaveq_decide_a(mode, LIST(i), LIST(q), LIST(out_i), LIST(out_q)));
     case RECEIVE_A: return received(ortkaveq_receive_a(mode, LIST(i), LIST(q), LIST(area), (void *)first.at, (void *)second.at));
     case SYMBOLS_B: return told_symbols(ortkaveq_symbols_b(mode, size, LIST(scheme)));
     case SEND_B: return told(ortkaveq_send_b(mode, LIST(frame), LIST(scheme), LIST(i), LIST(q)));
+    case DECIDE_B: return told(ortkaveq_decide_b(mode, size, LIST(scheme), LIST(i), LIST(q), LIST(out_i), LIST(out_q)));
     case RECEIVE_B: return received(ortkaveq_receive_b(mode, size, LIST(scheme), LIST(i), LIST(q), LIST(area)));
     case OPEN_B: return told(ortkaveq_open_b(mode, size, LIST(scheme), (void *)stream.at));
     default: return received(ortkaveq_step_b((void *)stream.at, LIST(i), LIST(q), LIST(area)));
@@ -142,8 +148,9 @@ static void opened(struct told answer, uint8_t mode, size_t size)
 }
 
 /*
- * Makes a call, by a code or mode. Size is how many elements of each lent list it writes if it is accepted; for symbols B, without any, and for opening B the
- * frame's bytes. Places are all 0 in a refusal, and where nothing is mended; where something is, guard.c knows them. It knows too what a step leaves.
+ * Makes a call, by a code or mode. Size is how many elements of each lent list it writes if it is accepted; for symbols B, without any, for opening B and for
+ * deciding the frame's bytes. Places are all 0 in a refusal, and where nothing is mended; where something is, guard.c knows them. It knows too what a step
+ * leaves.
  */
 static struct told run(enum job job, size_t mode, size_t size)
 {
@@ -158,12 +165,13 @@ static struct told run(enum job job, size_t mode, size_t size)
         take(*l);
     if (job == OPEN_B)
         opened(answer, (uint8_t)mode, size);
+    size_t written = job == DECIDE_A || job == DECIDE_B ? needed : size;
     bool cleared = job == RECEIVE_B && answer.number == ORTKAVEQ_UNCORRECTABLE;
     if (cleared)
         all(&area, 0, size, 0);
     for (l = lent; *l && job != OPEN_B && job != STEP_B; l++)
         if (!of_places(*l))
-            all(*l, answer.number == 0 || cleared ? size : 0, (*l)->length, POISON);
+            all(*l, answer.number == 0 || cleared ? written : 0, (*l)->length, POISON);
         else if (answer.number != 0 || answer.count == 0)
             all(*l, 0, ORTKAVEQ_PLACES, 0);
     return answer;

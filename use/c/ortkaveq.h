@@ -1,5 +1,5 @@
 /*
- * Ortkaveq: payload coding for HiNoC (ITU-T J.195.2), as nine calls for C11 and C++11.
+ * Ortkaveq: payload coding for HiNoC (ITU-T J.195.2), as eleven calls for C11 and C++11.
  *
  * docs/SCOPE.md says what is asked of each job, docs/READING.md what is proved of it. The code behind these declarations is proved; that the declarations
  * are those of the code is not proved but run (use/c/check).
@@ -83,6 +83,9 @@ enum {
      */
     ORTKAVEQ_SYMBOL = 256,
 
+    /* What decide is given for a level of 1: sixty-fourths. */
+    ORTKAVEQ_PARTS = 64,
+
     /* The most OFDM symbols of a frame, its elements of I and of Q then, and the most bytes of any frame (mode 0, every entry 10). */
     ORTKAVEQ_MOST_SYMBOLS = 256, ORTKAVEQ_MOST_LEVELS = 65536, ORTKAVEQ_MOST_BYTES = 67200,
 
@@ -92,10 +95,10 @@ enum {
 
 /* ---- Answers. In a refusal every count is 0. */
 
-/* Of encode, decode and send, and of opening a stream. */
+/* Of encode, decode, send and decide, and of opening a stream. */
 struct ortkaveq_answer {
     uint32_t number; /* 0, or why the call refused: enum ortkaveq_number */
-    uint32_t mended; /* bits mended; 0 for encode, send and opening */
+    uint32_t mended; /* bits mended; 0 for encode, send, decide and opening */
     uint64_t place;  /* where, as the number says */
 };
 
@@ -140,7 +143,7 @@ struct ortkaveq_stream {
 
 static_assert(sizeof(size_t) == 8, "a machine of 64 bits");
 static_assert(sizeof(struct ortkaveq_answer) == 16 && offsetof(struct ortkaveq_answer, mended) == 4 && offsetof(struct ortkaveq_answer, place) == 8,
-              "the answer of encode, decode and send");
+              "the answer of encode, decode, send and decide");
 static_assert(sizeof(struct ortkaveq_received) == 16 && offsetof(struct ortkaveq_received, mended) == 2 && offsetof(struct ortkaveq_received, fields) == 4
                   && offsetof(struct ortkaveq_received, worst) == 6 && offsetof(struct ortkaveq_received, place) == 8,
               "the answer of receive");
@@ -180,6 +183,17 @@ struct ortkaveq_answer ortkaveq_decode(uint8_t code, const uint8_t *word, size_t
 struct ortkaveq_answer ortkaveq_send_a(uint8_t mode, const uint8_t *frame, size_t frame_length, int16_t *i, size_t i_length, int16_t *q, size_t q_length);
 
 /*
+ * Decides noisy points, so that a frame can be received from them: each to the point of DQPSK at the least squared distance, at a tie to the first of (1,0),
+ * (0,1), (-1,0) and (0,-1). Levels come in in sixty-fourths, 64 for 1 and any of 16 bits, and go out as receive A takes them: it refuses none with 7 or 8.
+ * A point that was moved by less than half the way to the next, squared by less than 2048, so by up to 45 sixty-fourths, is decided to what was sent.
+ * Reads: the first 512 elements of i and of q, but for the unavailable sub-carriers, which may hold anything. Writes: the first 512 elements of out_i and of
+ * out_q; unavailable sub-carriers come out (0,0). Not in place: out_i and out_q overlap neither i nor q nor each other.
+ * Refuses with 1, 3, the latter for each of the four lists. A refusal writes nothing; elements beyond the 512 keep what they held.
+ */
+struct ortkaveq_answer ortkaveq_decide_a(uint8_t mode, const int16_t *i, size_t i_length, const int16_t *q, size_t q_length, int16_t *out_i,
+                                         size_t out_i_length, int16_t *out_q, size_t out_q_length);
+
+/*
  * Receives a frame. A burst of which more than 12 bits of the protected fields differ is refused as noise, with 11, in both modes, whatever its blocks and its
  * check are, even where its frame could have been mended. Else one that was sent by the earlier rule of the frame check is refused with 10.
  * Reads: the first 512 elements of i and of q. Writes: the first 94 (mode 0) or 58 (mode 1) bytes of area, the frame; all 16 of first and of second, the places
@@ -194,8 +208,8 @@ struct ortkaveq_received ortkaveq_receive_a(uint8_t mode, const int16_t *i, size
 /* ---- Payload B: modes 0, 1 and 2, up to 256 OFDM symbols, points by a scheme */
 
 /*
- * How many OFDM symbols a frame of size bytes needs: so many times 256 elements of i and of q are sent, and asked for by the two calls below; a stream takes
- * as many steps.
+ * How many OFDM symbols a frame of size bytes needs: so many times 256 elements of i and of q are sent, and asked for by the three calls below; a stream
+ * takes as many steps.
  * Reads: scheme, 210 entries, exactly. Writes nothing.
  * Refuses with 1, 2, 5, 6, as send B does.
  */
@@ -208,6 +222,18 @@ struct ortkaveq_answer_symbols ortkaveq_symbols_b(uint8_t mode, size_t size, con
  */
 struct ortkaveq_answer ortkaveq_send_b(uint8_t mode, const uint8_t *frame, size_t frame_length, const uint8_t *scheme, size_t scheme_length, int16_t *i,
                                        size_t i_length, int16_t *q, size_t q_length);
+
+/*
+ * Decides noisy points, so that a frame of size bytes can be received from them: each to the point of its sub-carrier's constellation at the least squared
+ * distance, at a tie to the lowest label. Levels come in in sixty-fourths, 64 for 1 and any of 16 bits, and go out as receive B takes them, and the steps of a
+ * stream: these refuse none with 7 or 8. A point that was moved by less than 64 sixty-fourths, half the way to the next, is decided to what was sent.
+ * Each OFDM symbol is decided by itself: with mode 0 and size 1 just one is, for a step of any stream by this scheme.
+ * Reads: scheme, 210 entries, exactly; the first 256 elements of i and of q for each OFDM symbol needed, but for the unavailable sub-carriers, which may hold
+ * anything. Writes: as many elements of out_i and of out_q; unavailable sub-carriers come out (0,0). Not in place: out_i and out_q overlap no other list.
+ * Refuses with 1, 2, 5, 6, 3, the last for each of the four lists of levels. A refusal writes nothing; elements beyond those keep what they held.
+ */
+struct ortkaveq_answer ortkaveq_decide_b(uint8_t mode, size_t size, const uint8_t *scheme, size_t scheme_length, const int16_t *i, size_t i_length,
+                                         const int16_t *q, size_t q_length, int16_t *out_i, size_t out_i_length, int16_t *out_q, size_t out_q_length);
 
 /*
  * Receives a frame of size bytes.

@@ -12,14 +12,15 @@
 #include <string.h>
 
 /* The most elements of a list of bytes, and of a list of levels; the most lists of a job, and of places; what these have in each byte before a call. */
-enum { MOST_BYTES = 67300, MOST_LEVELS = 65600, LISTS = 4, PLACE_LISTS = 2, POISON = 0xA5 };
+enum { MOST_BYTES = 67300, MOST_LEVELS = 65600, LISTS = 5, PLACE_LISTS = 2, POISON = 0xA5 };
 
 /* The two jobs of streams, and the bytes of a state in a request. */
 enum { STREAM = 9, STEP = 16, STATE_BYTES = 326 };
 
-/* Jobs 1 to 6: their lists, of bytes or levels, how many of them, the last ones, are lent, and how many counts and lists of places the response has. */
+/* Jobs 1 to 8: their lists, of bytes or levels, how many of them, the last ones, are lent, and how many counts and lists of places the response has. */
 static const struct { const char *lists; int lent, counts, places; } jobs[] = {
     {"", 0, 0, 0}, {"bb", 1, 0, 0}, {"bb", 1, 1, 1}, {"bll", 2, 0, 0}, {"llb", 1, 3, 2}, {"bbll", 2, 0, 0}, {"bllb", 1, 2, 0},
+    {"llll", 2, 0, 0}, {"bllll", 2, 0, 0},
 };
 
 /* A list, in memory of just its length, so that a step beyond it is one. */
@@ -92,12 +93,17 @@ static struct told call(uint8_t job, uint8_t mode, size_t size, const struct lis
     case 3: return told(ortkaveq_send_a(mode, LIST(0), LIST(1), LIST(2)));
     case 4: return told_a(ortkaveq_receive_a(mode, LIST(0), LIST(1), LIST(2), places[0].at, places[1].at));
     case 5: return told(ortkaveq_send_b(mode, LIST(0), LIST(1), LIST(2), LIST(3)));
-    default: return told_b(ortkaveq_receive_b(mode, size, LIST(0), LIST(1), LIST(2), LIST(3)));
+    case 6: return told_b(ortkaveq_receive_b(mode, size, LIST(0), LIST(1), LIST(2), LIST(3)));
+    case 7: return told(ortkaveq_decide_a(mode, LIST(0), LIST(1), LIST(2), LIST(3)));
+    default: return told(ortkaveq_decide_b(mode, size, LIST(0), LIST(1), LIST(2), LIST(3), LIST(4)));
     }
 }
 
-/* What ortkaveq_symbols_b answers for a scheme, and I and Q behind it, is what the job found: the same refusal, or the room that it asks for. */
-static void hold_symbols(struct told job, uint8_t mode, size_t size, const struct list *l, size_t area)
+/*
+ * What ortkaveq_symbols_b answers for a scheme, and so many lists of levels behind it, is what the job found: the same refusal, or the room that it asks for,
+ * beside that of the area.
+ */
+static void hold_symbols(struct told job, uint8_t mode, size_t size, const struct list *l, int lists, bool short_of)
 {
     struct ortkaveq_answer_symbols needed = ortkaveq_symbols_b(mode, size, LIST(0));
     uint32_t number = job.number;
@@ -108,7 +114,8 @@ static void hold_symbols(struct told job, uint8_t mode, size_t size, const struc
     hold(needed.number == 0 && needed.place == 0, "ortkaveq_symbols_b refuses what the job does not");
     hold(1 <= needed.symbols && needed.symbols <= ORTKAVEQ_MOST_SYMBOLS, "ortkaveq_symbols_b answers a count that cannot be");
     size_t levels = (size_t)needed.symbols * ORTKAVEQ_SYMBOL;
-    bool short_of = l[1].length < levels || l[2].length < levels || area < size;
+    for (int n = 1; n <= lists; n++)
+        short_of = short_of || l[n].length < levels;
     hold(short_of == (number == ORTKAVEQ_NO_ROOM), "the job asks for another room than ortkaveq_symbols_b");
 }
 
@@ -128,7 +135,7 @@ static void put_list(const struct list *l)
     put(l->at, l->length * l->width);
 }
 
-/* What a response has for each of jobs 1 to 6: number, place, its counts, its lists of places without their length, and the lent lists. */
+/* What a response has for each of jobs 1 to 8: number, place, its counts, its lists of places without their length, and the lent lists. */
 static void put_response(uint8_t job, struct told answer, const struct list *places, const struct list *lent)
 {
     put_told(answer, jobs[job].counts);
@@ -138,7 +145,7 @@ static void put_response(uint8_t job, struct told answer, const struct list *pla
         put_list(l);
 }
 
-/* The rest of a request of jobs 1 to 6. */
+/* The rest of a request of jobs 1 to 8. */
 static void serve(uint8_t job)
 {
     struct list l[LISTS], places[PLACE_LISTS];
@@ -146,7 +153,7 @@ static void serve(uint8_t job)
     uint64_t size = 0;
     int count = 0;
     get(&mode, sizeof mode);
-    if (job == 6)
+    if (job == 6 || job == 8)
         get(&size, sizeof size);
     for (const char *kind = jobs[job].lists; *kind; kind++)
         l[count++] = get_list(*kind);
@@ -154,9 +161,11 @@ static void serve(uint8_t job)
         places[n] = make_places();
     struct told answer = call(job, mode, size, l, places);
     if (job == 5)
-        hold_symbols(answer, mode, l[0].length, l + 1, l[0].length);
+        hold_symbols(answer, mode, l[0].length, l + 1, 2, false);
     if (job == 6)
-        hold_symbols(answer, mode, size, l, l[3].length);
+        hold_symbols(answer, mode, size, l, 2, l[3].length < size);
+    if (job == 8)
+        hold_symbols(answer, mode, size, l, 4, false);
     put_response(job, answer, places, l + count - jobs[job].lent);
     while (count > 0)
         free(l[--count].at);
@@ -276,7 +285,7 @@ static void serve_step(void)
 int main(void)
 {
     uint8_t job;
-    while (get(&job, sizeof job), (1 <= job && job <= 6) || job == STREAM || job == STEP)
+    while (get(&job, sizeof job), (1 <= job && job <= 8) || job == STREAM || job == STEP)
         if (job == STREAM)
             serve_stream();
         else if (job == STEP)

@@ -9,6 +9,7 @@ use Rattle.bch.proofs.Once.{encode-once, decode-once}
 use Rattle.payload_a.proofs.OnceA.{send-a-once, receive-a-once}
 use Rattle.payload_b.proofs.OnceB.{send-b-once, receive-b-once}
 use Rattle.payload_b.proofs.OnceStream.{open-once, step-once}
+use Rattle.decisions.proofs.OnceDecided.{decide-a-once, decide-b-once}
 use Rattle.answers.specs.Answers.{ofWritten, ofDecoded, ofReceivedA, ofReceivedB}
 use Rattle.answers.specs.declared.Written.{Written}
 use Rattle.answers.specs.declared.DecodedWord.{DecodedWord}
@@ -18,7 +19,7 @@ use Rattle.bridge.specs.Calls.{answerOf, receivedOf}
 use Rattle.payload_b.specs.declared.stream.State.{State}
 use Rattle.payload_b.specs.Courses.{toldOf}
 use Rattle.bridge.specs.Streams.{lentOf, stateOf}
-use Rattle.bridge.specs.Calls.{EncodeCall, DecodeCall, SendACall, ReceiveACall, SendBCall, ReceiveBCall, SymbolsBCall, OpenBCall, StepBCall}
+use Rattle.bridge.specs.Calls.{EncodeCall, DecodeCall, SendACall, ReceiveACall, SendBCall, ReceiveBCall, SymbolsBCall, OpenBCall, StepBCall, DecideACall, DecideBCall}
 use Rattle.bridge.specs.declared.Answer.{Answer}
 use Rattle.bridge.specs.declared.Received.{Received}
 use Rattle.bridge.specs.declared.Needed.{Needed}
@@ -84,3 +85,15 @@ module _ {stream : List ℕ} {is qs : List ℤ} {area : List ℕ} {r s : Receive
   step-b-call-once (inl p) (inr q) = absurd (q .holds-none (p .holds))
   step-b-call-once (inr p) (inl q) = absurd (p .holds-none (q .holds))
   step-b-call-once (inr p) (inr q) = (p .told ∙ sym (q .told), p .stream-left ∙ sym (q .stream-left), p .area-left ∙ sym (q .area-left))
+
+module _ {mode size : ℕ} {scheme : List ℕ} {is qs outI outQ : List ℤ} {r s : Answer} {is1 qs1 is2 qs2 : List ℤ} where
+  pub decide-a-call-once : DecideACall mode is qs outI outQ r is1 qs1 → DecideACall mode is qs outI outQ s is2 qs2 → (r ≡ s) × (is1 ≡ is2) × (qs1 ≡ qs2)
+  decide-a-call-once p q =
+      let same = decide-a-once (p .promise) (q .promise) in
+      (p .told ∙ ap (λ (a : Written). answerOf (ofWritten a)) (same .0) ∙ sym (q .told), same .1, same .2)
+
+  pub decide-b-call-once : DecideBCall mode size scheme is qs outI outQ r is1 qs1 → DecideBCall mode size scheme is qs outI outQ s is2 qs2
+      → (r ≡ s) × (is1 ≡ is2) × (qs1 ≡ qs2)
+  decide-b-call-once p q =
+      let same = decide-b-once (p .promise) (q .promise) in
+      (p .told ∙ ap (λ (a : Written). answerOf (ofWritten a)) (same .0) ∙ sym (q .told), same .1, same .2)

@@ -19,6 +19,7 @@ use Rattle.payload_b.specs.PromiseB.{planned, SendingB, ReceivingB}
 use Rattle.payload_b.specs.StreamB.{OpeningB, SteppingB}
 use Rattle.payload_b.specs.declared.stream.State.{State}
 use Rattle.payload_b.specs.Courses.{toldOf}
+use Rattle.decisions.specs.Deciding.{DecidingA, DecidingB}
 use Rattle.bridge.specs.Streams.{lentOf, stateOf}
 use Rattle.bridge.specs.declared.Answer.{Answer}
 use Rattle.bridge.specs.declared.Received.{Received}
@@ -107,3 +108,15 @@ pub record StepsNot (stream area : List ℕ) (r : Received) (stream' area' : Lis
 
 abbrev pub StepBCall : List ℕ → List ℤ → List ℤ → List ℕ → Received → List ℕ → List ℕ → Type 0
 StepBCall stream is qs area r stream' area' = StepsOn stream is qs area r stream' area' ⊎ StepsNot stream area r stream' area'
+
+-- ortkaveq_decide_a(mode, i, q, oi, oq): the answer, and `oi` and `oq` after
+pub record DecideACall (mode : ℕ) (is qs outI outQ : List ℤ) (r : Answer) (outI' outQ' : List ℤ) : Type 0 where
+  pub answer : Written
+  pub promise : DecidingA mode is qs outI outQ answer outI' outQ'
+  pub told : r ≡ answerOf (ofWritten answer)
+
+-- ortkaveq_decide_b(mode, size, scheme, i, q, oi, oq): the answer, and `oi` and `oq` after
+pub record DecideBCall (mode size : ℕ) (scheme : List ℕ) (is qs outI outQ : List ℤ) (r : Answer) (outI' outQ' : List ℤ) : Type 0 where
+  pub answer : Written
+  pub promise : DecidingB mode size scheme is qs outI outQ answer outI' outQ'
+  pub told : r ≡ answerOf (ofWritten answer)

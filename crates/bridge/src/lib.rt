@@ -3,7 +3,7 @@
 ghost use mathlib.Core.Path.{_≡_};
 ghost use Prim.Native.Nat.{_^_, _<_};
 ghost use Rattle.bridge.specs.Calls.{answerOf, receivedOf, EncodeCall, DecodeCall, SendACall, ReceiveACall, SendBCall, ReceiveBCall, SymbolsBCall};
-ghost use Rattle.bridge.specs.Calls.{OpenBCall, StepBCall};
+ghost use Rattle.bridge.specs.Calls.{OpenBCall, StepBCall, DecideACall, DecideBCall};
 
 mod lent;
 
@@ -178,6 +178,36 @@ pub extern "C" fn ortkaveq_step_b(
     let after = lent::numbers_of(moved.moving);
     lent::put_numbers(&after, stream);
     all_told(answers::of_received_b(answer))
+}
+
+// Decides noisy points of Payload A, in sixty-fourths of a level, to the nearest: writes 512 elements of oi and of oq.
+#[no_mangle]
+pub extern "C" fn ortkaveq_decide_a(
+    mode: u8,
+    i: &[i16],
+    q: &[i16],
+    oi: &mut [i16],
+    oq: &mut [i16],
+) -> Answer
+    ensures { λ r. ⌜ DecideACall mode (now (i .entry)) (now (q .entry)) (now (oi .entry)) (now (oq .entry)) r (now (oi .exit)) (now (oq .exit)) ⌝ }
+{
+    answer_of(answers::of_written(decider::decide_a(mode, i, q, oi, oq)))
+}
+
+// Decides those of Payload B, by mode, frame length and scheme: writes 256 elements of oi and of oq for each OFDM symbol needed.
+#[no_mangle]
+pub extern "C" fn ortkaveq_decide_b(
+    mode: u8,
+    size: usize,
+    scheme: &[u8],
+    i: &[i16],
+    q: &[i16],
+    oi: &mut [i16],
+    oq: &mut [i16],
+) -> Answer
+    ensures { λ r. ⌜ DecideBCall mode size (now (scheme .entry)) (now (i .entry)) (now (q .entry)) (now (oi .entry)) (now (oq .entry)) r (now (oi .exit)) (now (oq .exit)) ⌝ }
+{
+    answer_of(answers::of_written(decider::decide_b(mode, size, scheme, i, q, oi, oq)))
 }
 
 // What an answer tells, with one count.

@@ -1,7 +1,7 @@
 -- Payload A there and back: a frame goes up exactly when it fits and the burst is no noise; where points are accepted, sending the frame again gives the bits
 -- received but for those counted, in all and in the worst block; and clean points give the frame that was sent (demands 2 and 3; document 02, items 3, 8, 10).
 -- Assumes nothing.
-use mathlib.Core.Path.{_≡_, refl, sym, ap, ap₂, _∙_}
+use mathlib.Core.Path.{_≡_, refl, sym, ap, _∙_}
 use mathlib.Core.Logic.{inl, inr}
 use mathlib.Core.Bool.{true, _&&_}
 use mathlib.Core.List.{List, [], _++_}
@@ -10,7 +10,7 @@ use native.Mathlib.Omega.{arith}
 use borrow.Author.Tests.{leb-true, eqb-true, ltb-false}
 use lib.Dec.{eqb, leb, ltb}
 use lib.IntN.{ℤ}
-use lib.ListN.{length, take, drop, length-append, length-drop}
+use lib.ListN.{length, take, drop, length-drop}
 use lib.Seq.{take-at, length-take-le}
 use Rattle.answers.specs.Answers.{accepted, ofWritten, ofReceivedA, listed, ToldBurst, ofBurst, refusedBurst}
 use Rattle.answers.specs.Checks.{Checked, fails, passes}
@@ -27,13 +27,10 @@ use Rattle.bits.proofs.Digits.{bits-take, bits-drop}
 use Rattle.bits.proofs.Distances.{differ-self, differ-zero}
 use Rattle.bits.proofs.Placing.{places-self}
 use Rattle.points.specs.declared.Point.{Point}
-use Rattle.points.specs.Constellations.{levelI, levelQ}
 use Rattle.points.specs.Dqpsk.{dibits, strayAt}
 use Rattle.points.proofs.Turns.{dibits-bits-from}
-use Rattle.symbols.specs.Grids.{placed, received, firstOccupied, room}
-use Rattle.symbols.proofs.Readings.{received-take, occupied-take}
-use Rattle.symbols.proofs.Placings.{length-placed, placed-occupied}
-use Rattle.symbols.proofs.Rooms.{room-enough}
+use Rattle.symbols.specs.Grids.{received, firstOccupied, room}
+use Rattle.symbols.proofs.Leading.{front-room, front-points, front-empty}
 use Rattle.bch.proofs.Listings.{Names, names}
 use Rattle.payload.specs.Wire.{blockAt, countAt, worstOf, total, worst, Fits}
 use Rattle.payload.proofs.Wires.{fits-clean}
@@ -75,26 +72,6 @@ module _ (P : Checked Unit → Type 0) (failed : (number place : ℕ) → 0 < nu
       (λ e. on (leb-true mode 1 k) (ltb-false mostDiffering _ e)))))
       (λ _. failed 3 0 (omega arith)))
       (λ _. failed 1 0 (omega arith))
-
--- ---- lists that begin with points placed on m OFDM symbols
-
-module _ (m : ℕ) (ps : List Point) (is qs : List ℤ) where
-  front : (level : Point → ℤ) (beyond : List ℤ) → take (256 * m) (placed level m ps ++ beyond) ≡ placed level m ps
-  front level beyond = take-at (placed level m ps) beyond (256 * m) (length-placed level m ps)
-
-  front-room : true ≡ room (256 * m) (placed levelI m ps ++ is) (placed levelQ m ps ++ qs)
-  front-room = room-enough (256 * m) (placed levelI m ps ++ is) (placed levelQ m ps ++ qs) (reach levelI is) (reach levelQ qs)
-    where
-      reach : (level : Point → ℤ) (beyond : List ℤ) → 256 * m ≤ length (placed level m ps ++ beyond)
-      reach level beyond = simp (length-append, length-placed) (omega arith)
-
-  front-points : received m (placed levelI m ps ++ is) (placed levelQ m ps ++ qs) ≡ received m (placed levelI m ps) (placed levelQ m ps)
-  front-points = sym (received-take m (256 * m) _ _ (omega arith)) ∙ ap₂ (received m) (front levelI is) (front levelQ qs)
-
-  front-empty : firstOccupied (placed levelI m ps ++ is) (placed levelQ m ps ++ qs) 0 (256 * m) ≡ 256 * m
-  front-empty =
-      sym (occupied-take (256 * m) _ _ 0 (256 * m) (omega arith))
-      ∙ ap₂ (λ (i q : List ℤ). firstOccupied i q 0 (256 * m)) (front levelI is) (front levelQ qs) ∙ placed-occupied m ps
 
 -- ---- what is sent for a frame, read back
 

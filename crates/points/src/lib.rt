@@ -1,6 +1,7 @@
 // The points of HiNoC, ITU-T J.195.2: ten constellations (clause 6.4 and Annex B).
 // It knows no code, no sub-carrier and no frame. Every public function answers whatever comes in.
 ghost use mathlib.Core.Path.{_≡_};
+ghost use lib.IntN.{natAbs};
 ghost use Rattle.points.specs.Constellations.{levelI, levelQ, labelNumber, isStray};
 
 pub mod constellation;
@@ -61,4 +62,14 @@ pub fn label_number(label: Label) -> u16
         Label::Of(number) => number,
         Label::Stray => 0,
     }
+}
+
+// The size of a level.
+pub fn size(level: i16) -> u16
+    ensures { λ r. ⌜ r ≡ natAbs level ⌝ }
+{
+    if level < 0 {
+        return (-1 - level) as u16 + 1;
+    }
+    level as u16
 }

@@ -5,6 +5,7 @@ pub mod Readings
 pub mod Placings
 pub mod Halves
 pub mod Rooms
+pub mod Leading
 pub mod Schemes
 pub mod Mapping
 pub mod Labelled

@@ -114,7 +114,7 @@ fn copy(levels: &[i16], out: &mut [i16])
 }
 
 // Makes each level zero.
-pub(crate) fn clear(out: &mut [i16])
+pub fn clear(out: &mut [i16])
     ensures { λ _. ⌜ now (out .exit) ≡ replicate (length (now (out .entry))) (pos 0) ⌝ }
 {
     let mut k: usize = 0;

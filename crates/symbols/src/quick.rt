@@ -90,7 +90,7 @@ fn any(levels: &[i16]) -> u16
     let mut x: u16 = 0;
     let mut k: usize = 0;
     while k < levels.len() {
-        x = x | size(levels[k]);
+        x = x | points::size(levels[k]);
         k += 1;
     }
     x
@@ -104,7 +104,7 @@ fn amiss(entries: &[u8], i: &[i16], q: &[i16]) -> u16
     let mut x: u16 = 0;
     let mut s: usize = 0;
     while s < HALF {
-        x = x | wrong(entries[s], size(i[s]), size(q[s]));
+        x = x | wrong(entries[s], points::size(i[s]), points::size(q[s]));
         s += 1;
     }
     x
@@ -118,7 +118,7 @@ fn beside(i: &[i16], q: &[i16]) -> u16
     let mut x: u16 = 0;
     let mut s: usize = 0;
     while s < i.len() {
-        x = x | more_or_less(size(i[s]), size(q[s]));
+        x = x | more_or_less(points::size(i[s]), points::size(q[s]));
         s += 1;
     }
     x
@@ -156,16 +156,6 @@ fn both(e: u16, f: u16, holes: u16) -> u16
     } else {
         0
     }
-}
-
-// The size of a level.
-fn size(x: i16) -> u16
-    ensures { λ r. ⌜ r ≡ natAbs x ⌝ }
-{
-    if x < 0 {
-        return (-1 - x) as u16 + 1;
-    }
-    x as u16
 }
 
 // The largest size of a level of n bits: by sums and not from a table, so that the compiler does many at a time.

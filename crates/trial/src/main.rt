@@ -14,6 +14,8 @@
 //   5 send B       mode (1 byte), frame, scheme, I, Q                                         I, Q
 //   6 receive B    mode (1 byte), frame length (8 bytes), scheme, I, Q, area
 //                                                mended, worst                                area
+//   7 decide A     mode (1 byte), I, Q, out I, out Q                                          out I, out Q
+//   8 decide B     mode (1 byte), frame length (8 bytes), scheme, I, Q, out I, out Q          out I, out Q
 //   9 stream B     mode (1 byte), frame length (8 bytes), scheme, area, count of calls (4 bytes), and for each call I and Q
 //   16 step B      state, I, Q, area             mended, worst                                state, area
 //
@@ -26,6 +28,7 @@ ghost use mathlib.Core.Path.{_≡_};
 ghost use lib.ListN.{length};
 use input::Byte;
 
+mod decide;
 mod input;
 mod jobs_a;
 mod jobs_b;
@@ -55,7 +58,14 @@ fn levels_room() -> [i16; MOST_LEVELS]
 }
 
 // Reads a request and writes its response. False ends the program.
-fn serve(first: &mut [u8], second: &mut [u8], i: &mut [i16], q: &mut [i16]) -> bool {
+fn serve(
+    first: &mut [u8],
+    second: &mut [u8],
+    i: &mut [i16],
+    q: &mut [i16],
+    out_i: &mut [i16],
+    out_q: &mut [i16],
+) -> bool {
     let Byte::Of(job) = input::read_byte() else {
         return false;
     };
@@ -65,6 +75,8 @@ fn serve(first: &mut [u8], second: &mut [u8], i: &mut [i16], q: &mut [i16]) -> b
         4 => jobs_a::serve_receive(i, q, first),
         5 => jobs_b::serve_send(first, second, i, q),
         6 => jobs_b::serve_receive(second, i, q, first),
+        7 => decide::serve_a(i, q, out_i, out_q),
+        8 => decide::serve_b(first, i, q, out_i, out_q),
         9 => stream::serve_stream(second, i, q, first),
         16 => stream::serve_step(i, q, first),
         _ => false,
@@ -72,9 +84,16 @@ fn serve(first: &mut [u8], second: &mut [u8], i: &mut [i16], q: &mut [i16]) -> b
 }
 
 // A proved loop has to end, and nothing says that the input does: the turns count down from a number that no run uses up.
-fn serve_all(first: &mut [u8], second: &mut [u8], i: &mut [i16], q: &mut [i16]) {
+fn serve_all(
+    first: &mut [u8],
+    second: &mut [u8],
+    i: &mut [i16],
+    q: &mut [i16],
+    out_i: &mut [i16],
+    out_q: &mut [i16],
+) {
     let mut turns = u64::MAX;
-    while turns > 0 && serve(first, second, i, q) {
+    while turns > 0 && serve(first, second, i, q, out_i, out_q) {
         turns -= 1;
     }
 }
@@ -84,5 +103,14 @@ fn main() {
     let mut second = room();
     let mut i = levels_room();
     let mut q = levels_room();
-    serve_all(&mut first, &mut second, &mut i, &mut q);
+    let mut out_i = levels_room();
+    let mut out_q = levels_room();
+    serve_all(
+        &mut first,
+        &mut second,
+        &mut i,
+        &mut q,
+        &mut out_i,
+        &mut out_q,
+    );
 }

@@ -61,7 +61,7 @@ fn write_levels(levels: &[i16]) -> bool {
     write_length(levels.len()) && write_parts(levels, &mut bytes)
 }
 
-// The response to job 3 or 5: I and Q follow the answer.
+// The response to job 3, 5, 7 or 8: two lists of levels follow the answer.
 pub(crate) fn write_sent(told: Told, i: &[i16], q: &[i16]) -> bool {
     write_answer(told) && write_levels(i) && write_levels(q)
 }

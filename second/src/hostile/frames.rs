@@ -101,7 +101,7 @@ pub fn told_mode(rng: &mut Rng, faults: &Faults, mode: usize) -> u8 {
 }
 
 /// A frame that fits. In a low one nearly all is QPSK, most of the time, so that one too long for it stays small.
-fn any_frame(rng: &mut Rng, low: bool) -> Frame {
+pub fn any_frame(rng: &mut Rng, low: bool) -> Frame {
     if !low && rng.once_in(8) {
         return all_labels(rng);
     }

@@ -1,26 +1,17 @@
--- `symbols::quick::size` meets its contract: the size of a negative x is one more than -1 - x.
+-- `nearest::axis::raised` meets its contract: -1 - x is the size of a negative x.
 -- Assumes nothing.
-use mathlib.Core.Path.{_≡_, ap, sym, _∙_}
-use native.Mathlib.Numerals.{add-one}
+use mathlib.Core.Path.{_≡_, ap, sym}
 use native.Mathlib.Omega.{arith}
-use lib.IntN.{pos, negsuc, natAbs, _-ℤ_}
+use lib.IntN.{pos, negsuc, _-ℤ_}
 use lib.Signed.{mag}
 use mir.Syntax.{w16}
 use mir.Val.{toZ, ofZ}
 use mir.ValLaws.{toZ-ofZ}
-use Rattle.points.proofs.Signed.{when-pos, when-neg, size-fits, size-of-neg, size-of-pos}
-use Rattle.symbols.proofs.quick.size.Statement.{statement}
-use Rattle.symbols.proofs.quick.size.Tie as tie
-
-is-neg : (c : tie.Then1) → c .before .args .x ≡ negsuc (mag (c .before .args .x))
-is-neg c =
-    let x = c .before .args .x in
-    when-neg x (rw (toZ-ofZ w16 x (c .before .fits .x)) at (c .if1 .taken))
-
-is-pos : (c : tie.Else1) → c .before .args .x ≡ pos (mag (c .before .args .x))
-is-pos c =
-    let x = c .before .args .x in
-    when-pos x (rw (toZ-ofZ w16 x (c .before .fits .x)) at (c .if1 .left))
+use Rattle.points.proofs.Signed.{size-fits, size-of-neg, size-of-pos}
+use Rattle.nearest.specs.Axes.{raised}
+use Rattle.nearest.proofs.Signed.{is-neg, is-pos}
+use Rattle.nearest.proofs.axis.raised.Statement.{statement}
+use Rattle.nearest.proofs.axis.raised.Tie as tie
 
 turned : (c : tie.Then1) → negsuc 0 -ℤ toZ w16 (ofZ w16 (c .before .args .x)) ≡ pos (mag (c .before .args .x))
 turned c = size-of-neg (c .before .args .x) (c .before .fits .x) (c .if1 .taken)
@@ -36,21 +27,25 @@ cast-result c =
     let x = c .before .args .x in
     rw (turned c, toZ-ofZ w16 (pos (mag x)) (size-fits x (c .before .fits .x))) (tt, omega (arith, c .before .fits .x .sfits))
 
-add-result : tie.Need-add-result
-add-result c =
+sub-result-2 : tie.Need-sub-result-2
+sub-result-2 c =
     let x = c .before .args .x in
     rw (turned c, toZ-ofZ w16 (pos (mag x)) (size-fits x (c .before .fits .x))) (omega (arith, c .before .fits .x .sfits))
 
 returns : tie.Need-returns
 returns c =
     let x = c .before .args .x in
-    rw (turned c, toZ-ofZ w16 (pos (mag x)) (size-fits x (c .before .fits .x))) (add-one (mag x) ∙ sym (ap natAbs (is-neg c)))
+    let negative = is-neg x (c .before .fits .x) (c .if1 .taken) in
+    rw (turned c, toZ-ofZ w16 (pos (mag x)) (size-fits x (c .before .fits .x))) (sym (ap raised negative))
 
 cast-result-2 : tie.Need-cast-result-2
 cast-result-2 c = rw (kept c) (tt, omega (arith, c .before .fits .x .sfits))
 
-returns-2 : tie.Need-returns-2
-returns-2 c = rw (kept c) (sym (ap natAbs (is-pos c)))
+add-result : tie.Need-add-result
+add-result c = rw (kept c) (omega (arith, c .before .fits .x .sfits))
 
-pub size-spec : {M : Type 1} → statement M
-size-spec = tie.close (tie.spec sub-result cast-result add-result returns cast-result-2 returns-2)
+returns-2 : tie.Need-returns-2
+returns-2 c = rw (kept c) (sym (ap raised (is-pos (c .before .args .x) (c .before .fits .x) (c .if1 .left))))
+
+pub raised-spec : {M : Type 1} → statement M
+raised-spec = tie.close (tie.spec sub-result cast-result sub-result-2 returns cast-result-2 add-result returns-2)
