@@ -86,14 +86,14 @@ module _ {stream : List ℕ} {is qs : List ℤ} {area : List ℕ} {r s : Receive
   step-b-call-once (inr p) (inl q) = absurd (p .holds-none (q .holds))
   step-b-call-once (inr p) (inr q) = (p .told ∙ sym (q .told), p .stream-left ∙ sym (q .stream-left), p .area-left ∙ sym (q .area-left))
 
-module _ {mode size : ℕ} {scheme : List ℕ} {is qs outI outQ : List ℤ} {r s : Answer} {is1 qs1 is2 qs2 : List ℤ} where
+module _ {mode : ℕ} {is qs outI outQ : List ℤ} {r s : Answer} {is1 qs1 is2 qs2 : List ℤ} where
   pub decide-a-call-once : DecideACall mode is qs outI outQ r is1 qs1 → DecideACall mode is qs outI outQ s is2 qs2 → (r ≡ s) × (is1 ≡ is2) × (qs1 ≡ qs2)
   decide-a-call-once p q =
-      let same = decide-a-once (p .promise) (q .promise) in
+      let same = decide-a-once is qs outI outQ (p .answer) (q .answer) is1 qs1 is2 qs2 mode (p .promise) (q .promise) in
       (p .told ∙ ap (λ (a : Written). answerOf (ofWritten a)) (same .0) ∙ sym (q .told), same .1, same .2)
 
-  pub decide-b-call-once : DecideBCall mode size scheme is qs outI outQ r is1 qs1 → DecideBCall mode size scheme is qs outI outQ s is2 qs2
-      → (r ≡ s) × (is1 ≡ is2) × (qs1 ≡ qs2)
-  decide-b-call-once p q =
-      let same = decide-b-once (p .promise) (q .promise) in
+  pub decide-b-call-once : {size : ℕ} {scheme : List ℕ} → DecideBCall mode size scheme is qs outI outQ r is1 qs1
+      → DecideBCall mode size scheme is qs outI outQ s is2 qs2 → (r ≡ s) × (is1 ≡ is2) × (qs1 ≡ qs2)
+  decide-b-call-once {size} {scheme} p q =
+      let same = decide-b-once is qs outI outQ (p .answer) (q .answer) is1 qs1 is2 qs2 mode size scheme (p .promise) (q .promise) in
       (p .told ∙ ap (λ (a : Written). answerOf (ofWritten a)) (same .0) ∙ sym (q .told), same .1, same .2)

@@ -42,6 +42,20 @@ pub(crate) fn serve_b(
     if !entries.whole {
         return false;
     }
+    let s = entries.count;
+    serve_grid(mode, size.count, &scheme[0..s], i, q, oi, oq)
+}
+
+// Its last four: I, Q, out I and out Q.
+fn serve_grid(
+    mode: u8,
+    size: usize,
+    scheme: &[u8],
+    i: &mut [i16],
+    q: &mut [i16],
+    oi: &mut [i16],
+    oq: &mut [i16],
+) -> bool {
     let given = input::read_points(i, q);
     if !given.whole {
         return false;
@@ -50,15 +64,14 @@ pub(crate) fn serve_b(
     if !lent.whole {
         return false;
     }
-    let s = entries.count;
     let m = given.i;
     let l = given.q;
     let n = lent.i;
     let o = lent.q;
     decide_b(
         mode,
-        size.count,
-        &scheme[0..s],
+        size,
+        scheme,
         &i[0..m],
         &q[0..l],
         &mut oi[0..n],

@@ -63,8 +63,8 @@ fn serve(
     second: &mut [u8],
     i: &mut [i16],
     q: &mut [i16],
-    out_i: &mut [i16],
-    out_q: &mut [i16],
+    oi: &mut [i16],
+    oq: &mut [i16],
 ) -> bool {
     let Byte::Of(job) = input::read_byte() else {
         return false;
@@ -75,8 +75,8 @@ fn serve(
         4 => jobs_a::serve_receive(i, q, first),
         5 => jobs_b::serve_send(first, second, i, q),
         6 => jobs_b::serve_receive(second, i, q, first),
-        7 => decide::serve_a(i, q, out_i, out_q),
-        8 => decide::serve_b(first, i, q, out_i, out_q),
+        7 => decide::serve_a(i, q, oi, oq),
+        8 => decide::serve_b(first, i, q, oi, oq),
         9 => stream::serve_stream(second, i, q, first),
         16 => stream::serve_step(i, q, first),
         _ => false,
@@ -89,11 +89,11 @@ fn serve_all(
     second: &mut [u8],
     i: &mut [i16],
     q: &mut [i16],
-    out_i: &mut [i16],
-    out_q: &mut [i16],
+    oi: &mut [i16],
+    oq: &mut [i16],
 ) {
     let mut turns = u64::MAX;
-    while turns > 0 && serve(first, second, i, q, out_i, out_q) {
+    while turns > 0 && serve(first, second, i, q, oi, oq) {
         turns -= 1;
     }
 }
@@ -103,14 +103,7 @@ fn main() {
     let mut second = room();
     let mut i = levels_room();
     let mut q = levels_room();
-    let mut out_i = levels_room();
-    let mut out_q = levels_room();
-    serve_all(
-        &mut first,
-        &mut second,
-        &mut i,
-        &mut q,
-        &mut out_i,
-        &mut out_q,
-    );
+    let mut oi = levels_room();
+    let mut oq = levels_room();
+    serve_all(&mut first, &mut second, &mut i, &mut q, &mut oi, &mut oq);
 }

@@ -15,7 +15,7 @@ answer-of-requires c κs =
 
 returns : tie.Need-returns
 returns c =
-    let s = c .before .before .before .before .before .before .before .before .before .args in
+    let s = c .before .before .before .before .before .before .before .args in
     let call = c .before .before .before .before .decide-a in
     let made : DecideACall (s .mode) (s .i .now) (s .q .now) (s .oi .now) (s .oq .now) (c .answer-of .result) (call .last .1 .1 .1 .0) (call .last .1 .1 .1 .1 .0) = record {
       answer = call .result;

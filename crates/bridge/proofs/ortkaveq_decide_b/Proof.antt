@@ -15,9 +15,9 @@ answer-of-requires c κs =
 
 returns : tie.Need-returns
 returns c =
-    let s = c .before .before .before .before .before .before .before .before .before .args in
+    let s = c .before .before .before .before .before .before .before .before .args in
     let call = c .before .before .before .before .decide-b in
-    let made : DecideBCall (s .mode) (s .size) (s .scheme .now) (s .i .now) (s .q .now) (s .oi .now) (s .oq .now) (c .answer-of .result) (call .last .1 .1 .1 .1 .0) (call .last .1 .1 .1 .1 .1 .0) = record {
+    let made : DecideBCall (s .mode) (s .size) (s .scheme .now) (s .i .now) (s .q .now) (s .oi .now) (s .oq .now) (c .answer-of .result) (call .last .1 .1 .1 .1 .1 .0) (call .last .1 .1 .1 .1 .1 .1 .0) = record {
       answer = call .result;
       promise = call .ensures;
       told = c .answer-of .ensures ∙ ap answerOf (c .before .of-written .ensures);
