@@ -3,4 +3,5 @@ pub mod Tables
 pub mod Moves
 pub mod OnceDecided
 pub mod AfterA
+pub mod PointsB
 pub mod AfterB
