@@ -1,5 +1,5 @@
--- Payload B's points beside deciding: what points decided by the entries of a scheme are, and what was sent for a frame, which deciding keeps where it was moved by
--- less than half the least distance of its constellations.
+-- Payload B's points beside deciding: what points decided by the entries of a scheme are, and what was sent for a frame, which deciding keeps where it was moved
+-- by less than half the least distance of its constellations.
 -- Assumes nothing.
 use mathlib.Core.Path.{_≡_, refl, sym, ap, ap₂, subst, _∙_}
 use mathlib.Core.List.{List, [], _∷_, _++_, map, zipWith}

@@ -1,5 +1,5 @@
-// 8QAM: the eight points round one hole. Squared distances are compared by scores, without a square: 256 times the scores of two levels and what is the same for
-// all points make the squared distance.
+// 8QAM: the eight points round one hole. Squared distances are compared by scores, without a square: 256 times the scores of two levels, and what is the same
+// for all points, make the squared distance.
 ghost use mathlib.Core.Path.{_≡_};
 ghost use Prim.Native.Nat.{min, _+_, _*_, _%_, _<_};
 ghost use Rattle.points.specs.Constellations.{pointOf};
