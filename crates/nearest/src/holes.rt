@@ -97,7 +97,7 @@ fn weighed(quadrants: &[u64; 128], bits: u8, w: u16, x: u16, y: u16, j: u16, k: 
     if is_hole(j, k) {
         return Candidate { key: HOLE, i, q };
     }
-    let label = constellation::read_in(quadrants, bits, i, q) as u64;
+    let label = constellation::label_read(quadrants, bits, i, q) as u64;
     Candidate {
         key: 1024 * far(axis::off(w, x, j), axis::off(w, y, k)) + label,
         i,

@@ -87,6 +87,19 @@ pub fn read_in(quadrants: &[u64; 128], bits: u8, i: i16, q: i16) -> u16
     guess_in(quadrants, bits, level::apart(i), level::apart(q))
 }
 
+// The same, for whoever reads few labels: so a loop over points has `read_in` to itself, and the compiler puts it there.
+pub fn label_read(quadrants: &[u64; 128], bits: u8, i: i16, q: i16) -> u16
+    ensures { λ r. ⌜ r ≡ readIn (now (quadrants .entry)) bits i q ⌝ }
+{
+    if bits < 2 {
+        return 0;
+    }
+    if 10 < bits {
+        return 0;
+    }
+    guess_in(quadrants, bits, level::apart(i), level::apart(q))
+}
+
 // The one label of so many bits that (i, q) can have.
 fn guess_in(quadrants: &[u64; 128], bits: u8, i: Parts, q: Parts) -> u16
     requires { ⌜ (2 ≤ bits) × (bits ≤ 10) ⌝ }

@@ -22,7 +22,7 @@ returns-2 c =
     let l = h .before in
     let i = held (l .before .level .result) (l .before .level .ok) ∙ l .before .level .ensures in
     let q = held (l .level2 .result) (l .level2 .ok) ∙ l .level2 .ensures in
-    let label = rw (i, q) at (o .before .read-in .ensures) in
+    let label = rw (i, q) at (o .before .label-read .ensures) in
     rw (i, q, sym (h .is-hole .ensures) ∙ t .if1 .left, label, c .far .ensures .0, o .off .ensures .0, c .before .off2 .ensures .0)
 
 pub weighed-spec : {M : Type 1} → statement M
