@@ -1,10 +1,12 @@
 // What the jobs answer (document 01, "Refusal numbers"): accepted, with the counts that the job has, or refused, for a reason at a place.
 // Number, place and counts of each answer come from here, for C, the trial program and the report alike.
+#![tactic(auto)]
+
 ghost use Rattle.std.specs.Prelude.{◌≡◌};
 ghost use Rattle.answers.specs.Answers.{accepted, refused, because, of_written, of_decoded, of_received_a, of_received_b, refusal_at, no_word, no_burst};
 
 // Why a word, a frame, a grid or a state is refused, in the order of the numbers: document 01's, document 02's behind them, and 16, which is ours.
-#[derive(Drop)]
+#[derive(Clone, Copy)]
 pub enum Refusal {
     Unknown,
     WrongLength,
@@ -21,21 +23,21 @@ pub enum Refusal {
 }
 
 // What encode, send A and send B answer.
-#[derive(Drop)]
+#[derive(Clone, Copy)]
 pub enum Written {
     Accepted,
     Refused(Refusal),
 }
 
 // What decode answers: the bits mended, or a refusal.
-#[derive(Drop)]
+#[derive(Clone, Copy)]
 pub enum Decoded {
     Accepted(usize),
     Refused(Refusal),
 }
 
 // What receive A answers: the bits mended, the protected bits that differ and the bits mended in the worst block, or a refusal.
-#[derive(Drop)]
+#[derive(Clone, Copy)]
 pub enum ReceivedA {
     Accepted {
         mended: usize,
@@ -46,7 +48,7 @@ pub enum ReceivedA {
 }
 
 // What receive B answers: the bits mended and those of the worst block, or a refusal.
-#[derive(Drop)]
+#[derive(Clone, Copy)]
 pub enum ReceivedB {
     Accepted { mended: usize, worst: usize },
     Refused(Refusal),
@@ -56,14 +58,14 @@ pub enum ReceivedB {
 pub const PLACES: usize = 16;
 
 // What decode answers of a word, and beside it the places that it mended, indices in the word: they rise, as many as were mended; the other entries are 0.
-#[derive(Drop)]
+#[derive(Clone, Copy)]
 pub struct DecodedWord {
     pub answer: Decoded,
     pub places: [u16; PLACES],
 }
 
 // What receive A answers of a burst, and beside it such a list for each half.
-#[derive(Drop)]
+#[derive(Clone, Copy)]
 pub struct ReceivedBurst {
     pub answer: ReceivedA,
     pub first: [u16; PLACES],
@@ -71,7 +73,7 @@ pub struct ReceivedBurst {
 }
 
 // What an answer tells. A count that the job does not have is 0.
-#[derive(Drop)]
+#[derive(Clone, Copy)]
 pub struct Told {
     pub number: u8,
     pub place: usize,

@@ -8,7 +8,7 @@ use crate::code::{Held, Numbered};
 use answers::Refusal;
 
 // They pass, and this is the code; or one fails.
-#[derive(Drop)]
+#[derive(Clone, Copy)]
 pub enum Verdict {
     Passes(Held),
     Fails(Refusal),

@@ -3,7 +3,7 @@ ghost use Rattle.bch.specs.Held.{Holds};
 
 use crate::register::Register;
 
-#[derive(Drop)]
+#[derive(Clone, Copy)]
 pub struct Held {
     pub n: usize,
     pub k: usize,
@@ -48,7 +48,7 @@ const CODE3: Held = Held {
 };
 
 // The code of a number, if there is one.
-#[derive(Drop)]
+#[derive(Clone, Copy)]
 pub enum Numbered {
     Known(Held),
     Unknown,

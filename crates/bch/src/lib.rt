@@ -6,6 +6,7 @@
 //   code       the three codes as the code holds them
 //   checks     the checks 1, 2, 3 and 4
 //   register   remainders, in three machine words
+#![tactic(auto)]
 
 pub mod checks;
 pub mod code;

@@ -7,7 +7,7 @@ ghost use Rattle.bits.specs.Words.{lowest, digits};
 ghost use Rattle.bits.specs.Remainders.{step, remainder, remainder_from};
 ghost use Rattle.bch.specs.Registers.{contents, whole, tops, chosen, Sixteens, EntriesTo, Remainders};
 
-#[derive(Drop)]
+#[derive(Clone, Copy)]
 pub struct Register {
     pub high: u64,
     pub mid: u64,

@@ -1,15 +1,13 @@
 -- A list after a part of it was written; and lists of bits: one after a bit was written, and zeros.
 -- Assumes nothing.
 use mathlib.Core.Path.{◌≡◌, sym, ap, ap₂, ◌∙◌}
-use mathlib.Core.List.{List, [], ◌∷◌, ◌++◌, append-nil, append_assoc}
+use mathlib.Core.List.{List, [], ◌∷◌, ◌++◌, append_assoc}
 use Prim.Native.Nat.{ℕ, zero, suc, ◌+◌, ◌≤◌, ◌<◌}
-use native.Mathlib.Nat.{le_refl}
 use native.Mathlib.Omega.{arith}
 use borrow.Rule.Slice.PartMut.{put_mid, post_of}
-use lib.ListN.{length, take, drop, set, replicate, length-append, length-drop, drop_of_length-le}
-use lib.Seq.{take_at, take-length, drop-drop, length-take-le}
+use lib.ListN.{length, take, drop, set, replicate, length-append, length-drop}
+use lib.Seq.{take_at, drop-drop, length-take-le}
 use Rattle.bits.specs.Words.{Bits}
-use Rattle.bits.proofs.Parts.{copied}
 
 module _ (a k : ℕ) (xs : List ℕ) (fits : a + k ≤ length xs) where
   -- the part is as long as it should be
@@ -22,21 +20,10 @@ module _ (a k : ℕ) (xs : List ℕ) (fits : a + k ≤ length xs) where
       ap (take (a + k)) (sym (append_assoc (take a xs) ys (post_of a k xs)))
       ∙ take_at (take a xs ++ ys) (post_of a k xs) (a + k) (length-append (take a xs) ys ∙ ap₂ ◌+◌ (length-take-le a xs (omega arith)) e)
 
--- what `bytes::copy` leaves in a list as long
-copied_all : (bits part : List ℕ) → length part ≡ length bits → take (length bits) bits ++ drop (length bits) part ≡ bits
-copied_all bits part e = ap₂ ◌++◌ (take-length bits) (drop_of_length-le part {i = length bits} (rw e (le_refl (length bits)))) ∙ append-nil bits
-
--- and at the front of a longer list
-pub front_copied : (m out after : List ℕ) (n : ℕ) → length m ≡ n → after ≡ take (length m) m ++ drop (length m) out → take n after ≡ m
-front_copied m out after n long e = ap (take n) (e ∙ copied m out n long) ∙ take_at m (drop n out) n long
-
 module _ (out bits : List ℕ) (at : ℕ) (fits : at + length bits ≤ length out) where
   -- bits put into a list, from `at` on
-  pub put_part : (k : ℕ) (w : List ℕ) → k ≡ length bits → w ≡ take (length bits) bits ++ drop (length bits) (take k (drop at out))
-      → put_mid at k out w ≡ take at out ++ bits ++ drop (at + length bits) out
-  put_part k w e ew =
-      let l : length (take k (drop at out)) ≡ length bits = rw e (part_long at (length bits) out fits) in
-      rw (ew ∙ copied_all bits (take k (drop at out)) l, e, drop-drop (length bits) at out) (sym (append_assoc (take at out) bits (drop (at + length bits) out)))
+  pub put_part : (k : ℕ) (w : List ℕ) → k ≡ length bits → w ≡ bits → put_mid at k out w ≡ take at out ++ bits ++ drop (at + length bits) out
+  put_part k w e ew = rw (ew, e, drop-drop (length bits) at out) (sym (append_assoc (take at out) bits (drop (at + length bits) out)))
 
   -- what stands up to their end
   pub put_behind : (p next : List ℕ) (end : ℕ) → end ≡ at + length bits → take at out ≡ p → next ≡ take at out ++ bits ++ drop (at + length bits) out

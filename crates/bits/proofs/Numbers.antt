@@ -1,4 +1,4 @@
--- Numbers and their binary digits: one digit more at the end, numbers with the same digits, and the asNumber that bits are the digits of.
+-- Numbers and their binary digits: one digit more at the end, numbers with the same digits, and the number that bits are the digits of.
 -- Assumes nothing.
 use mathlib.Core.Path.{◌≡◌, refl, sym, ap, ap₂, ◌∙◌}
 use mathlib.Core.List.{List, [], ◌∷◌, ◌++◌, append-nil, append_assoc}
@@ -29,7 +29,7 @@ digits_same (suc r) x y e =
 pub digits_inj : (r x y : ℕ) → x < 2 ^ r → y < 2 ^ r → digits r x ≡ digits r y → x ≡ y
 digits_inj r x y hx hy e = sym (mod-eq_of_lt hx) ∙ digits_same r x y e ∙ mod-eq_of_lt hy
 
--- ---- the asNumber that bits are the digits of
+-- ---- the number that bits are the digits of
 
 from_snoc : (x : ℕ) (bits : List ℕ) (b : ℕ) → number_from x (bits ++ (b ∷ [])) ≡ 2 * number_from x bits + b % 2
 unfolding number_from
@@ -61,14 +61,14 @@ from_digits k x (b ∷ bits) h =
     ap (λ (n : ℕ). digits n (number_from (2 * x + b % 2) bits)) e ∙ from_digits (suc k) (2 * x + b % 2) bits h.1
     ∙ ap (λ (l : List ℕ). l ++ bits) (ap (digits (suc k)) twice ∙ digits_snoc k x b h.0) ∙ append_assoc (digits k x) (b ∷ []) bits
 
--- bits are the digits of their asNumber
+-- bits are the digits of their as_number
 pub digits_number : (bits : List ℕ) → Bits bits → digits (length bits) (as_number bits) ≡ bits
 unfolding digits
 digits_number bits h =
     let none : 0 + length bits ≡ length bits = omega arith in
     ap (λ (n : ℕ). digits n (as_number bits)) (sym none) ∙ from_digits 0 0 bits h
 
--- the asNumber of n bits, or of less, is below 2^n
+-- the as_number of n bits, or of less, is below 2^n
 pub number_low : (n : ℕ) (bits : List ℕ) → length bits ≤ n → as_number bits < 2 ^ n
 number_low n bits l =
     let p : 2 ^ (0 + length bits) ≤ 2 ^ n = pow_mono (omega arith) in
@@ -78,7 +78,7 @@ number_low n bits l =
 pub number_fits : (bits : List ℕ) → length bits ≤ 32 → as_number bits % 2 ^ 32 ≡ as_number bits
 number_fits bits l = mod-eq_of_lt (number_low 32 bits l)
 
--- bits are the digits of what is read as their asNumber
+-- bits are the digits of what is read as their as_number
 pub number_read : (bits : List ℕ) (x : ℕ) → Bits bits → length bits ≤ 32 → x ≡ as_number bits % 2 ^ 32 → (digits (length bits) x ≡ bits) × (x < 2 ^ length bits)
 number_read bits x h l e =
     let same : x ≡ as_number bits = e ∙ number_fits bits l in

@@ -1,6 +1,8 @@
 // Words, one bit to an element: their digits, the number that they are the digits of, and the bits of a frame's bytes, most significant first.
 // It knows no code, no point and no payload; what stands above has its words from here. Every function answers whatever comes in.
-ghost use Rattle.std.specs.Prelude.{◌≡◌, ◌*◌, ◌%◌, ◌^◌, ◌<◌, length};
+#![tactic(auto)]
+
+ghost use Rattle.std.specs.Prelude.{◌≡◌, ◌*◌, ◌%◌, ◌^◌, ◌<◌, ◌≤◌, ◌++◌, length, drop};
 ghost use Rattle.bits.specs.Words.{Bits, digits, first_bad};
 ghost use Rattle.bits.specs.Bytes.{bits_of, as_number, bytes_of, bits_put, bytes_put};
 
@@ -84,6 +86,21 @@ pub fn put_bytes(bits: &[u8], out: &mut [u8])
         return;
     }
     write_bytes(bits, out);
+}
+
+// A list put at the front of another, where there is room for it. A loop of its own: its code asks the C library for nothing.
+pub fn put_front(from: &[u8], to: &mut [u8])
+    ensures there { length from.now ≤ length to.old → to.new ≡ from.now ++ drop (length from.now) to.old }
+    ensures no_room { length to.old < length from.now → to.new ≡ to.old }
+{
+    if to.len() < from.len() {
+        return;
+    }
+    let mut k: usize = 0;
+    while k < from.len() {
+        to[k] = from[k];
+        k += 1;
+    }
 }
 
 fn write_bits(frame: &[u8], out: &mut [u8])

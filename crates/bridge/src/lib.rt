@@ -1,5 +1,7 @@
 // The calls of the house as C functions, for programs in other languages to link: use/c/ortkaveq.h declares them for C and C++, and says what a caller owes.
 // A slice is passed as a pointer and then a length.
+#![tactic(auto)]
+
 ghost use Rattle.std.specs.Prelude.{◌≡◌, ◌^◌, ◌<◌};
 ghost use Rattle.bridge.specs.Calls.{answer_of, received_of, EncodeCall, DecodeCall, SendACall, ReceiveACall, SendBCall, ReceiveBCall, SymbolsBCall};
 ghost use Rattle.bridge.specs.Calls.{OpenBCall, StepBCall, DecideACall, DecideBCall};
@@ -13,7 +15,7 @@ use payload_b::plan::Verdict;
 
 // The number, 0 for success, its place, and the count of bits mended, 0 where the call has none.
 #[repr(C)]
-#[derive(Drop)]
+#[derive(Clone, Copy)]
 pub struct Answer {
     pub number: u32,
     pub mended: u32,
@@ -23,7 +25,7 @@ pub struct Answer {
 // The same of receiving, Payload A or Payload B, with all counts: the bits mended, the protected bits that differ, 0 in Payload B, and the bits mended in the
 // worst block. It is no larger, so that it too comes back in registers.
 #[repr(C)]
-#[derive(Drop)]
+#[derive(Clone, Copy)]
 pub struct Received {
     pub number: u16,
     pub mended: u16,
@@ -34,7 +36,7 @@ pub struct Received {
 
 // The number, 0 for success, its place, and the OFDM symbols that a frame needs, 0 in a refusal.
 #[repr(C)]
-#[derive(Drop)]
+#[derive(Clone, Copy)]
 pub struct Needed {
     pub number: u32,
     pub symbols: u32,

@@ -2,6 +2,8 @@
 //
 //   grids    as many OFDM symbols as a frame has
 //   symbol   one OFDM symbol
+#![tactic(auto)]
+
 ghost use Rattle.std.specs.Prelude.{◌≡◌, ◌&&◌};
 ghost use Rattle.symbols.specs.Grids.{room};
 ghost use Rattle.decisions.specs.Deciding.{DecidingA, DecidingB};

@@ -35,7 +35,7 @@ fn write(word: &[u8], count: usize, places: &[u16; PLACES], out: &mut [u8])
     requires count_in_bounds { (count ≤ length places.now) × ((j : ℕ) → j < count → get_or places.now j 0 < length word.now) }
     ensures { out.new ≡ flipped_at (take count places.now) word.now ++ drop (length word.now) out.old }
 {
-    bytes::copy(word, out);
+    bits::put_front(word, out);
     let mut j: usize = 0;
     while j < count {
         let p = places[j] as usize;

@@ -12,6 +12,8 @@
 //
 // The copy is answered only if it is a codeword, by the remainder again, and differs in at most t places. What the algebra shows is that
 // no word within t of a codeword is missed.
+#![tactic(auto)]
+
 ghost use Rattle.bch.specs.Promise.{Decoding};
 ghost use Rattle.decoder.specs.Promise.{DecodingPacked};
 
@@ -28,7 +30,7 @@ use bch::code::Numbered;
 use bch::{checks, code};
 
 // What decode answers of a packed word, and the codeword, packed; in a refusal no bit but 0.
-#[derive(Drop)]
+#[derive(Clone, Copy)]
 pub struct DecodedPacked {
     pub told: DecodedWord,
     pub bits: [u64; 8],

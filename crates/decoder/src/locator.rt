@@ -9,7 +9,7 @@ ghost use Rattle.field.proofs.Elements.{gf512, element_of};
 ghost use Rattle.field.proofs.Values.{series};
 ghost use Rattle.decoder.specs.Locators.{Lent, Ends, Squared, After};
 
-#[derive(Drop)]
+#[derive(Clone, Copy)]
 pub struct State {
     pub locator: [u16; 34],
     pub other: [u16; 34],

@@ -9,14 +9,14 @@ ghost use Rattle.decoder.specs.Marks.{root_at, Exponent, Below, HasRow, Placed, 
 use answers::PLACES;
 
 // The places that are flipped in a copy: how many, and the list of the first 16.
-#[derive(Drop)]
+#[derive(Clone, Copy)]
 pub struct Flips {
     pub count: usize,
     pub places: [u16; PLACES],
 }
 
 // A copy of a packed word with places flipped.
-#[derive(Drop)]
+#[derive(Clone, Copy)]
 pub struct Flipped {
     pub copy: [u64; 8],
     pub flips: Flips,

@@ -1,4 +1,6 @@
 // Encode one word of the three truncated BCH codes of clause 6.3: the information, and behind it the remainder.
+#![tactic(auto)]
+
 ghost use Rattle.std.specs.Prelude.{◌≡◌, ◌++◌, take, drop};
 ghost use Rattle.bch.specs.Codes.{encoded};
 ghost use Rattle.bch.specs.Held.{Sound, code_of, Fitting};
@@ -12,7 +14,7 @@ use bch::code::{Held, Numbered};
 use bch::{checks, code, register};
 
 // What encode answers of packed information, and the codeword, packed; in a refusal no bit but 0.
-#[derive(Drop)]
+#[derive(Clone, Copy)]
 pub struct EncodedPacked {
     pub told: Written,
     pub bits: [u64; 8],
@@ -73,6 +75,6 @@ fn write(c: Held, bits: &[u8], out: &mut [u8])
     let k = c.k;
     let n = c.n;
     let generator = c.generator;
-    bytes::copy(bits, out);
+    bits::put_front(bits, out);
     register::put(register::remainder(generator, bits), &mut out[k..n]);
 }

@@ -2,6 +2,8 @@
 // coefficients; a is 2. Every number may come in: it stands for its nine low digits.
 // A product is read from two tables, of logarithms and of powers. A constant that is indexed in a loop is copied at each turn, so a loop
 // takes the tables once, by `log_table` and `power_table`, and lends them to `product_from`.
+#![tactic(auto)]
+
 ghost use Rattle.std.specs.Prelude.{◌≡◌, ◌<◌, ◌≤◌, ◌+◌, ◌%◌, min, get_or};
 ghost use Rattle.field.specs.Field.{sum, product, inverse, power};
 ghost use Rattle.field.specs.Tables.{log_table, power_table, product_from};

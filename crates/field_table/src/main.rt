@@ -1,6 +1,9 @@
 // Writes all 262,144 products of GF(512), x outside and y inside, and then the 512 inverses: two bytes each, the low one first.
 // Its file `stdout` is what `second field` writes, so that a run of this program holds the two fields together.
-use libc::STDOUT_FILENO;
+#![tactic(auto)]
+
+use std::io;
+use std::io::Write;
 
 // Of the 513 rows the last is that of the inverses.
 fn entry(row: u16, y: u16) -> u16 {
@@ -19,18 +22,20 @@ fn high(v: u16) -> u8 {
     (v / 256) as u8
 }
 
-fn write_row(row: u16) {
+fn write_row<W: Write>(row: u16, to: &mut W) -> io::Result<()> {
     let mut out = [0u8; 1024];
     for y in 0..512usize {
         let v = entry(row, y as u16);
         out[y * 2] = low(v);
         out[y * 2 + 1] = high(v);
     }
-    io::write_all(STDOUT_FILENO, &out);
+    to.write_all(&out)
 }
 
-fn main() {
+fn main(rt: HostRuntime) -> io::Result<()> {
+    let mut to = io::writer(&rt);
     for row in 0..=512u16 {
-        write_row(row);
+        write_row(row, &mut to)?;
     }
+    Ok(())
 }

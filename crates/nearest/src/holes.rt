@@ -7,7 +7,7 @@ use crate::axis;
 use points::{Point, constellation};
 
 // A point that may be the nearest: its key, by which distances come first and then labels, and its levels.
-#[derive(Drop)]
+#[derive(Clone, Copy)]
 pub struct Candidate {
     pub key: u64,
     pub i: i16,

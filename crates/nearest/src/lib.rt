@@ -5,6 +5,8 @@
 //   square    constellations that are full squares of levels
 //   holes     those with holes
 //   eight     8QAM, which is one hole and the eight points round it
+#![tactic(auto)]
+
 ghost use Rattle.std.specs.Prelude.{◌≡◌};
 ghost use Rattle.points.specs.Dqpsk.{phases};
 ghost use Rattle.nearest.specs.Nearest.{nearest};

@@ -1,5 +1,7 @@
 // Words packed: bits in machine words, 64 binary digits in each, the highest first. Eight machine words hold 512 bits; a shorter word stands first, with
 // zeros behind. A run of 41 holds bits on their way between words and OFDM symbols.
+#![tactic(auto)]
+
 ghost use Rattle.std.specs.Prelude.{◌≡◌, cond, ℕ, ◌+◌, ◌-◌, ◌*◌, ◌/◌, ◌%◌, ◌<◌, ◌≤◌, min, eqb, leb, length, take, drop, get_or, set, replicate};
 ghost use mathlib.Core.List.{◌++◌, zip_with};
 ghost use Rattle.std.specs.Int.Bits.{bit_xor};

@@ -48,6 +48,7 @@ module _ (size : ℕ) (sent bits : List ℕ) where
   -- no block has more
   each_within : (m b : ℕ) → b < m → count_at size b sent bits ≤ worst_of size m sent bits
   unfolding worst_of
+  each_within zero b l = elim l [ ]
   each_within (suc m) b l = by (dec_le m b) (each_within m b)
     where
       by : Dec (m ≤ b) → (b < m → count_at size b sent bits ≤ worst_of size m sent bits)
@@ -61,6 +62,7 @@ module _ (size : ℕ) (sent bits : List ℕ) where
 
   one_has : (m : ℕ) → 0 < m → Has m
   unfolding worst_of
+  one_has zero l = elim l [ ]
   one_has (suc zero) l = (0, omega arith, sym (zero-max (count_at size 0 sent bits)))
   one_has (suc (suc m)) l = by (dec_le (worst_of size (suc m) sent bits) (count_at size (suc m) sent bits)) (one_has (suc m) (omega arith))
     where

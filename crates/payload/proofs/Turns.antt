@@ -51,6 +51,13 @@ eight_digits k h =
 pub eight_added : (k : ℕ) (l : List ℕ) → k < 256 → length l ≡ 8 → added l 0 (eight_of k) ≡ zip_with bit_xor l (digits 8 k)
 eight_added k l h long = added_all (eight_of k) l 0 (sym long) ∙ ap (zip_with bit_xor l) (eight_digits k h)
 
+-- the eight of a byte, where the last two are read apart
+pub eight_added_by : (k : ℕ) (l : List ℕ) (x y : ℕ) → k < 256 → length l ≡ 8
+    → let six = added l 0 (k / 128 ∷ k / 64 % 2 ∷ k / 32 % 2 ∷ k / 16 % 2 ∷ k / 8 % 2 ∷ k / 4 % 2 ∷ []) in
+    let seven = set six 6 (bit_xor x (k / 2 % 2)) in
+    x ≡ get_or six 6 0 → y ≡ get_or seven 7 0 → set seven 7 (bit_xor y (k % 2)) ≡ zip_with bit_xor l (digits 8 k)
+eight_added_by k l x y h long ex ey = rw (ey, ex) (eight_added k l h long)
+
 -- ---- turns
 
 -- what bits come to, where those from i on are yet to be scrambled from the register s

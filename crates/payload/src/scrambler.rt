@@ -59,7 +59,7 @@ fn add_eight(key: u8, bits: &mut [u8])
 }
 
 // 64 bits scrambled, and the register after them.
-#[derive(Drop)]
+#[derive(Clone, Copy)]
 pub struct Scrambled {
     pub bits: u64,
     pub register: u16,
@@ -169,7 +169,7 @@ fn byte_of(x: u64, j: usize) -> u8
 }
 
 // Bits scrambled and packed, and the register after them.
-#[derive(Drop)]
+#[derive(Clone, Copy)]
 pub struct Packed {
     pub bits: [u64; 8],
     pub register: u16,

@@ -2,6 +2,8 @@
 //
 //   check       the frame check of clause 7.4.2
 //   segments    protected fields, and rows of bits one behind the other, clause 7.4.5
+#![tactic(auto)]
+
 ghost use Rattle.std.specs.Prelude.{◌≡◌};
 ghost use Rattle.payload_a.specs.CodedA.{bytes_a};
 

@@ -32,7 +32,7 @@ pub fn put(bits: &[u8], at: usize, out: &mut [u8])
         return;
     }
     let end = at + bits.len();
-    bytes::copy(bits, &mut out[at..end]);
+    out[at..end].copy_from_slice(bits);
 }
 
 // Two rows one behind the other.

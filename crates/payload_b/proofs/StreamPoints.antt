@@ -213,6 +213,7 @@ module _ {scheme : List ℕ} (good : Scheme scheme) (is qs : List ℤ) where
 
   -- so of each of m
   pub clear_at : (m j : ℕ) → j < m → points_checked_b m scheme is qs ≡ passes tt → points_checked_b 1 scheme (symbol_at j is) (symbol_at j qs) ≡ passes tt
+  clear_at zero j l p = elim l [ ]
   clear_at (suc m) j l p = by (dec_le m j) (clear_at m j) (clear_each m p)
     where
       by : Dec (m ≤ j) → (j < m → points_checked_b m scheme is qs ≡ passes tt → points_checked_b 1 scheme (symbol_at j is) (symbol_at j qs) ≡ passes tt)

@@ -2,5 +2,7 @@
 //
 //   plan        the checks 1, 2, 5 and 6, and how many OFDM symbols a frame needs
 //   stream      the state of a stream, and whether an opening and steps can give it
+#![tactic(auto)]
+
 pub mod plan;
 pub mod stream;

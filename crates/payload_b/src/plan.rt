@@ -80,7 +80,7 @@ fn symbols(mode: u8, blocks: usize, sum: usize) -> usize
 }
 
 // What both directions need to know of a frame: the OFDM symbols needed, the blocks, and the bits of an OFDM symbol.
-#[derive(Drop)]
+#[derive(Clone, Copy)]
 pub struct Plan {
     pub symbols: usize,
     pub blocks: usize,
@@ -88,7 +88,7 @@ pub struct Plan {
 }
 
 // The checks pass, with this plan; or one fails.
-#[derive(Drop)]
+#[derive(Clone, Copy)]
 pub enum Verdict {
     Passes(Plan),
     Fails(Refusal),

@@ -12,7 +12,7 @@ use payload::ahead;
 use symbols::grid::POINTS;
 
 // Whether a stream goes on, or was refused; then it repeats that refusal.
-#[derive(Drop)]
+#[derive(Clone, Copy)]
 pub enum Course {
     Open,
     Refused(Refusal),
@@ -20,7 +20,7 @@ pub enum Course {
 
 // The scheme, the unfinished block, its bits at the front and zeros behind them, and how many they are; mode and frame length; the OFDM symbols taken in, the
 // scrambler's register, the bits mended, in all and in the worst block.
-#[derive(Drop)]
+#[derive(Clone, Copy)]
 pub struct State {
     pub scheme: [u8; POINTS],
     pub block: [u64; 8],
@@ -35,7 +35,7 @@ pub struct State {
 }
 
 // What of a state moves on from step to step: all but the scheme, which can be lent.
-#[derive(Drop)]
+#[derive(Clone, Copy)]
 pub struct Moving {
     pub block: [u64; 8],
     pub count: usize,
@@ -88,14 +88,14 @@ pub fn without_scheme(s: State) -> Moving
 }
 
 // How far a state is: the plan of its frame, and the blocks that are done.
-#[derive(Drop)]
+#[derive(Clone, Copy)]
 pub struct Stage {
     pub plan: Plan,
     pub done: usize,
 }
 
 // An opening and steps can give the state, and it is so far; or they cannot.
-#[derive(Drop)]
+#[derive(Clone, Copy)]
 pub enum Found {
     Sound(Stage),
     Forged,

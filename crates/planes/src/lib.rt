@@ -1,11 +1,13 @@
 // Elements of GF(512) by the lane: nine machine words, the planes, hold one element for each of 64 lanes. Digit b of the element of lane l is bit l
 // of plane b, so that a sum or a product of 64 pairs is a few operations on machine words. Eight rows of planes have a lane for every element: lane l of
 // row w is for the element 64 w + l.
+#![tactic(auto)]
+
 ghost use Rattle.std.specs.Prelude.{ℕ, ◌%◌, ◌<◌, ◌≡◌};
 ghost use Rattle.planes.specs.Lanes.{bit_of, Stepped, PlusWhere, Summed, Multiplied, TimesA, Throughout, OnlyWhere, Vanishing};
 ghost use Rattle.planes.specs.Lanes.{DigitTaken, LowsTaken, Begun, Highs, Quadratic};
 
-#[derive(Drop)]
+#[derive(Clone, Copy)]
 pub struct Planes {
     pub p0: u64,
     pub p1: u64,
@@ -166,7 +168,7 @@ pub fn zeros(v: Planes) -> u64
 }
 
 // v + d x + e x^2, for what is not known yet of x.
-#[derive(Drop)]
+#[derive(Clone, Copy)]
 pub struct Trio {
     pub v: Planes,
     pub d: Planes,
@@ -211,7 +213,7 @@ fn start(c: u16, d: u16, e: u16) -> Trio
 }
 
 // What stands in row 0, and what each of the three digits of a row's number adds.
-#[derive(Drop)]
+#[derive(Clone, Copy)]
 pub struct Affine {
     pub low: Planes,
     pub six: Planes,

@@ -228,7 +228,7 @@ stray : (l : Label) → is_stray l ≡ true → l ≡ Stray
 stray (Of phase) e = absurd (true≢false (sym e))
 stray Stray e = refl
 
--- unless it is the number of points, a stray point stands at strayAt
+-- unless it is the number of points, a stray point stands at stray_at
 pub stray_there : (ps : List Point) → stray_at ps < length ps → phase_at ps (stray_at ps) ≡ Stray
 stray_there ps h = stray _ ((first _ Nothing ps).there h)
 

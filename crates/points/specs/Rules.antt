@@ -12,7 +12,7 @@ printed n = map (λ r. r.0) (get_or tables n []) ++ map (λ r. r.3) (get_or tabl
 unfoldable pub square : ℤ → ℕ
 square x = nat_abs x * nat_abs x
 
--- the sum of I-as-I + Q-as-Q over the points
+-- the sum of I·I + Q·Q over the points
 unfoldable pub squares : List Point → ℕ
 squares [] = 0
 squares (p ∷ ps) = square (level_i p) + square (level_q p) + squares ps

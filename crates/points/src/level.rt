@@ -4,7 +4,7 @@ ghost use Rattle.points.specs.Constellations.{same};
 ghost use Rattle.points.specs.Lent.{parts_of, level_of};
 
 // A level's sign, 1 where it is negative, and its size: n both for n and for -(n + 1).
-#[derive(Drop)]
+#[derive(Clone, Copy)]
 pub struct Parts {
     pub sign: u16,
     pub size: u16,

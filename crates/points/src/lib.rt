@@ -1,5 +1,7 @@
 // The points of HiNoC, ITU-T J.195.2: ten constellations (clause 6.4 and Annex B).
 // It knows no code, no sub-carrier and no frame. Every public function answers whatever comes in.
+#![tactic(auto)]
+
 ghost use Rattle.std.specs.Prelude.{◌≡◌, nat_abs};
 ghost use Rattle.points.specs.Constellations.{level_i, level_q, label_number, is_stray};
 
@@ -12,14 +14,14 @@ mod quarter;
 mod tables;
 
 // The point of a label: its levels I and Q, or nothing where there is no such label.
-#[derive(Drop)]
+#[derive(Clone, Copy)]
 pub enum Point {
     At { i: i16, q: i16 },
     Nothing,
 }
 
 // The label of a point, or that the point is stray: none of its constellation.
-#[derive(Drop)]
+#[derive(Clone, Copy)]
 pub enum Label {
     Of(u16),
     Stray,

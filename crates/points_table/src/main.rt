@@ -1,33 +1,39 @@
 // For 2 to 10 bits: I and Q of every label, and then the label (65535 for a stray point) of every point with both levels from -40 to 40, I
 // outside and Q inside: two bytes each, the low one first. Its file `stdout` is what `second points` writes, so that a run of this program
 // holds the two sets of tables together.
-use libc::STDOUT_FILENO;
-use points::{Label, Point, constellation};
+#![tactic(auto)]
 
-fn main() {
+use points::{Label, Point, constellation};
+use std::io;
+use std::io::Write;
+
+fn main(rt: HostRuntime) -> io::Result<()> {
+    let mut to = io::writer(&rt);
     for bits in 2..=10u8 {
-        write_points(bits);
-        write_labels(bits);
+        write_points(bits, &mut to)?;
+        write_labels(bits, &mut to)?;
     }
+    Ok(())
 }
 
 // The points of all labels of so many bits.
-fn write_points(bits: u8) {
+fn write_points<W: Write>(bits: u8, to: &mut W) -> io::Result<()> {
     for label in 0..1024u16 {
-        write_point(constellation::point(bits, label));
+        write_point(constellation::point(bits, label), to)?;
     }
+    Ok(())
 }
 
-fn write_point(point: Point) {
+fn write_point<W: Write>(point: Point, to: &mut W) -> io::Result<()> {
     match point {
-        Point::At { i, q } => write_levels(complement(i), complement(q)),
-        Point::Nothing => {}
+        Point::At { i, q } => write_levels(complement(i), complement(q), to),
+        Point::Nothing => Ok(()),
     }
 }
 
-fn write_levels(i: u16, q: u16) {
+fn write_levels<W: Write>(i: u16, q: u16, to: &mut W) -> io::Result<()> {
     let out = [low(i), high(i), low(q), high(q)];
-    io::write_all(STDOUT_FILENO, &out);
+    to.write_all(&out)
 }
 
 // The level's two's complement.
@@ -39,20 +45,21 @@ fn complement(v: i16) -> u16 {
 }
 
 // The labels of so many bits of all points near the middle.
-fn write_labels(bits: u8) {
+fn write_labels<W: Write>(bits: u8, to: &mut W) -> io::Result<()> {
     for x in 0..81usize {
-        write_row(bits, level(x));
+        write_row(bits, level(x), to)?;
     }
+    Ok(())
 }
 
-fn write_row(bits: u8, i: i16) {
+fn write_row<W: Write>(bits: u8, i: i16, to: &mut W) -> io::Result<()> {
     let mut out = [0u8; 162];
     for y in 0..81usize {
         let v = number(constellation::label(bits, i, level(y)));
         out[y * 2] = low(v);
         out[y * 2 + 1] = high(v);
     }
-    io::write_all(STDOUT_FILENO, &out);
+    to.write_all(&out)
 }
 
 // The level at a place from 0 to 80.

@@ -67,7 +67,7 @@ done_bytes {base} {d} {bits} {f} {register} {k} {worst} (y ∷ ys) h done =
     let after : register_after (8 * length ys) next ≡ register_after (8 * length (y ∷ ys)) register
     = sym (register_more 8 (8 * length ys) register) ∙ ap (λ (n : ℕ). register_after n register) end in
     let one = rw (add-zero k, max-zero worst) at (done_more done (eight_written register y h.0) (eight_long register y)) in
-    rw (← more, ← front, ← append_snoc f y ys, ← after) (done_bytes ys h.1 one)
+    rw (← more, ← front, ← append_snoc f y ys, ← after) (done_bytes {d = d + 1} ys h.1 one)
 
 -- ---- those of a run
 

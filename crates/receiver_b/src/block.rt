@@ -8,7 +8,7 @@ use answers::Decoded;
 use payload::scrambler;
 
 // A block at its end: the bits mended, and the scrambler's register after; or no codeword is near enough.
-#[derive(Drop)]
+#[derive(Clone, Copy)]
 pub enum Finished {
     Mended { count: usize, register: u16 },
     Hopeless,

@@ -4,6 +4,8 @@
 //   stream     bits on their way, block by block
 //   receiver   one frame, whose checks pass but for those of points
 //   step       one OFDM symbol of a stream
+#![tactic(auto)]
+
 ghost use Rattle.payload_b.specs.PromiseB.{ReceivingB};
 ghost use Rattle.payload_b.specs.StreamB.{with_scheme, OpeningB, SteppingB};
 
@@ -60,7 +62,7 @@ pub fn open_b(mode: u8, size: usize, scheme: &[u8]) -> State
 }
 
 // What a step answers, and the state after it.
-#[derive(Drop)]
+#[derive(Clone, Copy)]
 pub struct Stepped {
     pub answer: ReceivedB,
     pub state: State,
@@ -81,7 +83,7 @@ pub fn step_b(state: State, i: &[i16], q: &[i16], area: &mut [u8]) -> Stepped
 }
 
 // The same where the scheme is lent: what a step answers, and what has moved of the state.
-#[derive(Drop)]
+#[derive(Clone, Copy)]
 pub struct Moved {
     pub answer: ReceivedB,
     pub moving: Moving,

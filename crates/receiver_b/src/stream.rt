@@ -19,7 +19,7 @@ use symbols::scheme;
 
 // How many bits wait for the next block, the blocks done, the scrambler's register, the bits mended, in all and in the worst block; not good once a block
 // could not be mended.
-#[derive(Drop)]
+#[derive(Clone, Copy)]
 pub struct Tally {
     pub count: usize,
     pub done: usize,
@@ -30,7 +30,7 @@ pub struct Tally {
 }
 
 // What is on its way: the unfinished block, its bits at the front and zeros behind them, and the tally.
-#[derive(Drop)]
+#[derive(Clone, Copy)]
 pub struct Stream {
     pub block: [u64; 8],
     pub tally: Tally,

@@ -1,6 +1,8 @@
 // Remainders of packed words by a generator, sixteen bits a step, from its table of four parts of sixteen entries (bch's `register::table`), which is lent.
 // An entry has three machine words, the highest first. The lower ones are 0 for a short generator, so only as many are read as its remainders need: `below`
 // is how many of them below the highest.
+#![tactic(auto)]
+
 ghost use Rattle.std.specs.Prelude.{◌≡◌, suc, ◌+◌, ◌-◌, ◌*◌, ◌/◌, ◌%◌, ◌^◌, ◌≤◌, ◌<◌, min, get_or, take, drop};
 ghost use Rattle.std.specs.Int.Bits.{bit_xor};
 ghost use Rattle.packed.specs.Packed.{bits512};

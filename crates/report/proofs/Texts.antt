@@ -5,7 +5,7 @@ use mathlib.Core.List.{List, ◌++◌}
 use Prim.Native.Nat.{ℕ, ◌+◌, ◌-◌, ◌≤◌}
 use native.Mathlib.Omega.{arith}
 use borrow.Rule.Slice.PartMut.{put_mid}
-use lib.ListN.{length, take, drop, replicate, length-append, length-replicate, replicate-append-replicate}
+use lib.ListN.{length, drop, replicate, length-append, length-replicate, replicate-append-replicate}
 use lib.Seq.{take_at, drop_at, take-append_seam, drop-append-add}
 use Rattle.bits.proofs.Copies.{put_part}
 use Rattle.report.specs.declared.Text.{Text}
@@ -36,7 +36,7 @@ module _ (held more : List ℕ) (short : length held + length more ≤ 128) wher
   abbrev bytes : List ℕ
   bytes = held ++ zeros (128 - length held)
 
-  grown : (k : ℕ) (w : List ℕ) → k ≡ length more → w ≡ take (length more) more ++ drop (length more) (take k (drop (length held) bytes))
+  grown : (k : ℕ) (w : List ℕ) → k ≡ length more → w ≡ more
       → record { bytes = put_mid (length held) k bytes w; count = length held + length more } ≡ text_of (held ++ more)
   unfolding text_of
   grown k w ek ew =
@@ -55,14 +55,12 @@ module _ (more : List ℕ) (text : Text) (room : Room (length more) text) where
   length_room = ap (λ (t : Text). length t.bytes) room.is ∙ length_text room.held (omega (arith, room.short))
 
   -- bytes put behind
-  pub text_grown : (k : ℕ) (w : List ℕ) → k ≡ length more
-      → w ≡ take (length more) more ++ drop (length more) (take k (drop text.count text.bytes))
-      → (held : List ℕ) → text ≡ text_of held
+  pub text_grown : (k : ℕ) (w : List ℕ) → k ≡ length more → w ≡ more → (held : List ℕ) → text ≡ text_of held
       → record { bytes = put_mid text.count k text.bytes w; count = text.count + length more } ≡ text_of (held ++ more)
   unfolding text_of
   text_grown k w ek ew held is =
       let short : length held + length more ≤ 128 = omega (arith, count_room, ap (λ (t : Text). t.count) is) in
-      rw is (grown held more short k w ek (rw is at ew))
+      rw is (grown held more short k w ek ew)
 
 -- room for fewer, and room behind what a text is known to hold
 pub room_less : (n m : ℕ) (text : Text) → Room n text → m ≤ n → Room m text

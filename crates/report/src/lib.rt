@@ -3,6 +3,8 @@
 //
 //   writer    a text, words and numbers one behind the other
 //   lines     the lines for each answer
+#![tactic(auto)]
+
 ghost use Rattle.std.specs.Prelude.{◌≡◌, ◌≤◌, length};
 ghost use Rattle.payload_a.specs.PromiseA.{elements_a};
 ghost use Rattle.report.specs.Lines.{lines_of, text_of, Counted};
@@ -15,7 +17,7 @@ mod lines;
 mod writer;
 
 // A text of at most 128 bytes: the first count of them, and zeros behind.
-#[derive(Drop)]
+#[derive(Clone, Copy)]
 pub struct Text {
     pub bytes: [u8; 128],
     pub count: usize,

@@ -23,7 +23,7 @@ pub(crate) fn with(text: Text, more: &[u8]) -> Text
     let mut bytes = text.bytes;
     let at = text.count;
     let end = at + more.len();
-    bytes::copy(more, &mut bytes[at..end]);
+    bytes[at..end].copy_from_slice(more);
     Text { bytes, count: end }
 }
 

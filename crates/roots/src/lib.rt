@@ -1,6 +1,8 @@
 // The zeros of a locator among all 512 elements of GF(512), found for all of them at once: Horner's rule in x^3, on planes. Each of its steps multiplies
 // by x^3 and adds c + d x + e x^2, which over bits is made of what the digits of x add, one by one.
 // Digit b of the elements of row w stands at 8 b + w; lane l of row w stands for the element 64 w + l.
+#![tactic(auto)]
+
 ghost use Rattle.std.specs.Prelude.{◌≡◌, suc, ◌*◌, ◌/◌, ◌<◌, min, length, replicate};
 ghost use Rattle.roots.specs.Searches.{planes_at, row_put, Cubes, Grown, times_cube, plus_row, AddedAt, Filled, Advanced, RowsTold, Triple, GoneDown, Searched};
 

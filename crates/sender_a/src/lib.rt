@@ -1,6 +1,8 @@
 // Sending Payload A of HiNoC (ITU-T J.195.2, clause 7.4, as document 01 reads it): a frame to points.
 //
 //   sender      one frame, whose mode and length are checked
+#![tactic(auto)]
+
 ghost use Rattle.payload_a.specs.PromiseA.{SendingA};
 
 mod sender;

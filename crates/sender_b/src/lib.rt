@@ -1,6 +1,8 @@
 // Sends Payload B of HiNoC (ITU-T J.195.2, clause 7.5, as document 01 reads it): a frame to as many as 256 OFDM symbols.
 //
 //   sender   one frame, whose checks pass
+#![tactic(auto)]
+
 ghost use Rattle.payload_b.specs.PromiseB.{SendingB};
 
 mod sender;

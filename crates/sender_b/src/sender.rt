@@ -14,7 +14,7 @@ use symbols::grid::SUB_CARRIERS;
 use symbols::scheme;
 
 // How many bits wait for the next OFDM symbol, the bytes of the frame that they and those before are made of, and the scrambler's register.
-#[derive(Drop)]
+#[derive(Clone, Copy)]
 pub struct Outgoing {
     pub count: usize,
     pub at: usize,
@@ -22,7 +22,7 @@ pub struct Outgoing {
 }
 
 // Bits that wait, at the front of a run, and how many.
-#[derive(Drop)]
+#[derive(Clone, Copy)]
 pub struct Run {
     pub bits: [u64; RUN],
     pub going: Outgoing,

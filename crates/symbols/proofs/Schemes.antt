@@ -68,7 +68,7 @@ sum_append (n ∷ a) b = omega (arith, sum_append a b)
 sum_split : (k : ℕ) (scheme : List ℕ) → sum_of (take k scheme) + sum_of (drop k scheme) ≡ sum_of scheme
 sum_split k scheme = sym (sum_append (take k scheme) (drop k scheme)) ∙ ap sum_of (take-append-drop k scheme)
 
-sum_take-le : (k : ℕ) (scheme : List ℕ) → sum_of (take k scheme) ≤ sum_of scheme
+pub sum_take-le : (k : ℕ) (scheme : List ℕ) → sum_of (take k scheme) ≤ sum_of scheme
 sum_take-le k scheme = omega (arith, sum_split k scheme)
 
 -- one entry more

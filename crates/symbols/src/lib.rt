@@ -8,6 +8,7 @@
 //   quick     a quick look before the checks
 //   growing   bits of points put one behind the other
 //   spreading points of bits put onto sub-carriers
+#![tactic(auto)]
 
 mod checks;
 pub mod grid;
@@ -18,14 +19,14 @@ pub mod scheme;
 mod spreading;
 
 // What a sub-carrier holds: the constellation symbol s, numbered from 1, or nothing.
-#[derive(Drop)]
+#[derive(Clone, Copy)]
 pub enum Carrier {
     Holds(usize),
     Empty,
 }
 
 // What is wrong with OFDM symbols: nothing, or the grid index of an unavailable sub-carrier that is occupied, or of a point that is none of its constellation.
-#[derive(Drop)]
+#[derive(Clone, Copy)]
 pub enum Fault {
     Clear,
     Occupied(usize),

@@ -45,7 +45,7 @@ fn first_stray(m: usize, i: &[i16], q: &[i16]) -> usize
 }
 
 // What reading an OFDM symbol gives: its bits, and the phase of its last point.
-#[derive(Drop)]
+#[derive(Clone, Copy)]
 pub struct Reading {
     pub bits: [u8; BITS],
     pub last: u16,
@@ -102,7 +102,7 @@ fn dibits(phase: u16, phases: &[u16; POINTS]) -> [u8; BITS]
 }
 
 // The levels of 210 points, in s order, and the phase of the last.
-#[derive(Drop)]
+#[derive(Clone, Copy)]
 pub struct Turned {
     pub is: [i16; POINTS],
     pub qs: [i16; POINTS],

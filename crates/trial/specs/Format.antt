@@ -1,8 +1,9 @@
 -- Numbers, places and levels in bytes, as the trial program's format has them.
 -- Assumes nothing.
-use Rattle.std.specs.Prelude.{ℕ, zero, suc, ◌+◌, ◌*◌, ◌/◌, ◌%◌, List, [], ◌∷◌, ◌++◌, map, ℤ, take, drop}
+use Rattle.std.specs.Prelude.{ℕ, zero, suc, ◌+◌, ◌*◌, ◌/◌, ◌%◌, List, [], ◌∷◌, ◌++◌, map, length, ℤ, take, drop}
 use Rattle.std.specs.Int.{w16}
 use Rattle.std.proofs.Common.{to_z, of_z}
+use Rattle.answers.specs.declared.Told.{Told}
 
 -- the k lowest bytes of n, the lowest first
 unfoldable pub little_endian : ℕ → ℕ → List ℕ
@@ -27,3 +28,17 @@ level_bytes levels = pairs (map (of_z w16) levels)
 unfoldable pub levels_in : ℕ → List ℕ → List ℤ
 levels_in zero bs = []
 levels_in (suc n) bs = to_z w16 (value (take 2 bs)) ∷ levels_in n (drop 2 bs)
+
+-- ---- what a response is made of
+
+-- an answer's number in a byte, its place in eight
+abbrev pub head_bytes : Told → List ℕ
+head_bytes told = told.number ∷ little_endian 8 told.place
+
+-- a list of bytes: its count in four bytes, and its elements
+abbrev pub list_bytes : List ℕ → List ℕ
+list_bytes elements = little_endian 4 (length elements) ++ elements
+
+-- a list of levels: its count in four bytes, and two bytes for each
+abbrev pub level_list_bytes : List ℤ → List ℕ
+level_list_bytes levels = little_endian 4 (length levels) ++ level_bytes levels

@@ -1,143 +1,124 @@
-// Reading standard input: a byte, a frame length, a list. A count, a list of bytes and a part of a list of levels ask for all their bytes at once, and none
+// Reading a request: a byte, a frame length, a list. A count, a list of bytes and a part of a list of levels ask for all their bytes at once, and none
 // is read ahead of the request.
-ghost use Rattle.std.specs.Prelude.{◌≡◌, ◌*◌, ◌^◌, ◌≤◌, ◌<◌, length};
+//
+// Whatever comes of it, what is left of the input is its rest. An error leaves any elements in the lent room; the program reads no further.
+ghost use Rattle.std.specs.Prelude.{◌≡◌, [], ◌∷◌, ◌*◌, ◌^◌, ◌≤◌, ◌<◌, length, IfOk, OnOk, IsErrOf};
 ghost use Rattle.std.specs.Int.{w16};
+ghost use Rattle.std.specs.Io.KnownBytes.{Consumes, IsAtEnd};
 ghost use Rattle.std.proofs.Common.{to_z};
 ghost use Rattle.trial.specs.Format.{value, levels_in};
+ghost use Rattle.trial.specs.Streams.{LeavesRest};
 
 use crate::parts;
 use crate::parts::PART;
-use libc::STDIN_FILENO;
+use crate::stop::Stop;
+use std::io::Read;
 
-// A byte, or the end of the input.
-#[derive(Drop)]
-pub enum Byte {
-    Of(u8),
-    End,
+// The next bytes, as many as there is room for.
+fn fill<R: Read>(from: &mut R, room: &mut [u8]) -> Result<(), Stop>
+    ensures ok { OnOk result (Consumes (R.remaining from.old) (R.remaining from.new) room.new) }
+    ensures end { IsErrOf result Stop.End → IsAtEnd (R.remaining from.new) }
+    ensures rest { LeavesRest (R.remaining from.old) (R.remaining from.new) }
+{
+    let mut done = 0;
+    while done < room.len() {
+        let n = from.read(&mut room[done..])?;
+        if n == 0 {
+            return Err(Stop::End);
+        }
+        done += n;
+    }
+    Ok(())
 }
 
-// What was read of a list: how many elements, and whether that is the whole of it.
-#[derive(Drop)]
-pub struct Listed {
-    pub count: usize,
-    pub whole: bool,
-}
-
-// What was read of I and Q: how many elements of each, and whether that is the whole of both.
-#[derive(Drop)]
-pub struct Points {
-    pub i: usize,
-    pub q: usize,
-    pub whole: bool,
-}
-
-pub(crate) fn read_byte() -> Byte {
+// A byte.
+pub(crate) fn read_byte<R: Read>(from: &mut R) -> Result<u8, Stop>
+    ensures ok { IfOk result (λ b. Consumes (R.remaining from.old) (R.remaining from.new) (b ∷ [])) }
+    ensures rest { LeavesRest (R.remaining from.old) (R.remaining from.new) }
+{
     let mut one = [0u8; 1];
-    if io::read_full(STDIN_FILENO, &mut one) < 1 {
-        return Byte::End;
-    }
-    Byte::Of(one[0])
+    fill(from, &mut one)?;
+    Ok(one[0])
 }
 
-// A frame length, in eight bytes: the count of what it answers.
-pub(crate) fn read_size() -> Listed {
+// A frame length, in eight bytes.
+pub(crate) fn read_size<R: Read>(from: &mut R) -> Result<usize, Stop>
+    ensures { LeavesRest (R.remaining from.old) (R.remaining from.new) }
+{
     let mut bytes = [0u8; 8];
-    let got = io::read_full(STDIN_FILENO, &mut bytes);
-    Listed {
-        count: value(&bytes),
-        whole: got == 8,
-    }
+    fill(from, &mut bytes)?;
+    Ok(value(&bytes))
 }
 
-// A list of bytes, into the first elements of room.
-pub(crate) fn read_list(room: &mut [u8]) -> Listed
-    ensures { result.count ≤ length room.old }
+// A list of bytes, into the first elements of room: how many.
+pub(crate) fn read_list<R: Read>(from: &mut R, room: &mut [u8]) -> Result<usize, Stop>
+    ensures ok { IfOk result (λ n. n ≤ length room.old) }
+    ensures rest { LeavesRest (R.remaining from.old) (R.remaining from.new) }
 {
-    let head = read_count(room.len());
-    if !head.whole {
-        return head;
-    }
-    let n = head.count;
-    let whole = io::read_full(STDIN_FILENO, &mut room[0..n]) == n;
-    Listed { count: n, whole }
+    let n = read_count(from, room.len())?;
+    fill(from, &mut room[0..n])?;
+    Ok(n)
 }
 
-// The lists I and Q, each into the first elements of its room.
-pub(crate) fn read_points(i: &mut [i16], q: &mut [i16]) -> Points
-    ensures { (result.i ≤ length i.old) × (result.q ≤ length q.old) }
+// The lists I and Q, each into the first elements of its room: how many of each.
+pub(crate) fn read_points<R: Read>(
+    from: &mut R,
+    i: &mut [i16],
+    q: &mut [i16],
+) -> Result<(usize, usize), Stop>
+    ensures ok { IfOk result (λ n. (n.0 ≤ length i.old) × (n.1 ≤ length q.old)) }
+    ensures rest { LeavesRest (R.remaining from.old) (R.remaining from.new) }
 {
-    let of_i = read_levels(i);
-    if !of_i.whole {
-        return Points {
-            i: 0,
-            q: 0,
-            whole: false,
-        };
-    }
-    let of_q = read_levels(q);
-    Points {
-        i: of_i.count,
-        q: of_q.count,
-        whole: of_q.whole,
-    }
+    let of_i = read_levels(from, i)?;
+    let of_q = read_levels(from, q)?;
+    Ok((of_i, of_q))
 }
 
-// A list of levels, into the first elements of room.
-fn read_levels(room: &mut [i16]) -> Listed
-    ensures { result.count ≤ length room.old }
+// A list of levels, into the first elements of room: how many.
+fn read_levels<R: Read>(from: &mut R, room: &mut [i16]) -> Result<usize, Stop>
+    ensures ok { IfOk result (λ n. n ≤ length room.old) }
+    ensures rest { LeavesRest (R.remaining from.old) (R.remaining from.new) }
 {
-    let head = read_count(room.len());
-    if !head.whole {
-        return head;
-    }
-    let n = head.count;
+    let n = read_count(from, room.len())?;
     let mut bytes = [0u8; 2 * PART];
-    let whole = read_parts(&mut room[0..n], &mut bytes);
-    Listed { count: n, whole }
+    read_parts(from, &mut room[0..n], &mut bytes)?;
+    Ok(n)
 }
 
-// The count of a list, of which there is room for most elements.
-pub(crate) fn read_count(most: usize) -> Listed
-    ensures { result.count ≤ most }
+// The count of a list, of which there is room for most elements. A list of more is no request.
+pub(crate) fn read_count<R: Read>(from: &mut R, most: usize) -> Result<usize, Stop>
+    ensures ok { IfOk result (λ n. n ≤ most) }
+    ensures rest { LeavesRest (R.remaining from.old) (R.remaining from.new) }
 {
     let mut bytes = [0u8; 4];
-    let got = io::read_full(STDIN_FILENO, &mut bytes);
+    fill(from, &mut bytes)?;
     let n = value(&bytes);
-    if got == 4 && n <= most {
-        return Listed {
-            count: n,
-            whole: true,
-        };
-    }
-    Listed {
-        count: 0,
-        whole: false,
-    }
+    if n <= most { Ok(n) } else { Err(Stop::End) }
 }
 
-// Levels, part by part, by way of bytes. False says that the input ended before.
-fn read_parts(levels: &mut [i16], bytes: &mut [u8]) -> bool
+// Levels, part by part, by way of bytes.
+fn read_parts<R: Read>(from: &mut R, levels: &mut [i16], bytes: &mut [u8]) -> Result<(), Stop>
     requires { 1024 ≤ length bytes.old }
+    ensures { LeavesRest (R.remaining from.old) (R.remaining from.new) }
 {
     let mut i: usize = 0;
     while i < levels.len() {
         let end = parts::end(i, levels.len());
-        if !read_part(&mut levels[i..end], bytes) {
-            return false;
-        }
+        read_part(from, &mut levels[i..end], bytes)?;
         i = end;
     }
-    true
+    Ok(())
 }
 
 // One part: two bytes for each level.
-fn read_part(levels: &mut [i16], bytes: &mut [u8]) -> bool
+fn read_part<R: Read>(from: &mut R, levels: &mut [i16], bytes: &mut [u8]) -> Result<(), Stop>
     requires { length levels.old * 2 ≤ length bytes.old }
+    ensures { LeavesRest (R.remaining from.old) (R.remaining from.new) }
 {
     let end = levels.len() * 2;
-    let whole = io::read_full(STDIN_FILENO, &mut bytes[0..end]) == end;
+    fill(from, &mut bytes[0..end])?;
     unpack(bytes, levels);
-    whole
+    Ok(())
 }
 
 // The levels that the first bytes stand for.

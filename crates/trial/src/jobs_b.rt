@@ -1,93 +1,85 @@
 // Jobs 5 and 6: send and receive Payload B.
-use crate::input::Byte;
+use crate::stop::Stop;
 use crate::{input, output};
+use std::io;
+use std::io::{Read, Write};
 
-// Reads the fields of job 5, mode, frame, scheme, I and Q, and makes the call. False ends the program.
-pub(crate) fn serve_send(
+// Reads the fields of job 5, mode, frame, scheme, I and Q, and makes the call.
+pub(crate) fn serve_send<R: Read, W: Write>(
+    from: &mut R,
+    to: &mut W,
     frame: &mut [u8],
     scheme: &mut [u8],
     i: &mut [i16],
     q: &mut [i16],
-) -> bool {
-    let Byte::Of(mode) = input::read_byte() else {
-        return false;
-    };
-    let given = input::read_list(frame);
-    if !given.whole {
-        return false;
-    }
-    let entries = input::read_list(scheme);
-    if !entries.whole {
-        return false;
-    }
-    let lent = input::read_points(i, q);
-    if !lent.whole {
-        return false;
-    }
-    let n = given.count;
-    let s = entries.count;
-    let m = lent.i;
-    let l = lent.q;
+) -> Result<(), Stop> {
+    let mode = input::read_byte(from)?;
+    let n = input::read_list(from, frame)?;
+    let s = input::read_list(from, scheme)?;
+    let (m, l) = input::read_points(from, i, q)?;
     send(
+        to,
         mode,
         &frame[0..n],
         &scheme[0..s],
         &mut i[0..m],
         &mut q[0..l],
-    )
+    )?;
+    Ok(())
 }
 
-// Reads the fields of job 6, mode, frame length, scheme, I, Q and area, and makes the call. False ends the program.
-pub(crate) fn serve_receive(
+// Reads the fields of job 6, mode, frame length, scheme, I, Q and area, and makes the call.
+pub(crate) fn serve_receive<R: Read, W: Write>(
+    from: &mut R,
+    to: &mut W,
     scheme: &mut [u8],
     i: &mut [i16],
     q: &mut [i16],
     area: &mut [u8],
-) -> bool {
-    let Byte::Of(mode) = input::read_byte() else {
-        return false;
-    };
-    let size = input::read_size();
-    if !size.whole {
-        return false;
-    }
-    let entries = input::read_list(scheme);
-    if !entries.whole {
-        return false;
-    }
-    let given = input::read_points(i, q);
-    if !given.whole {
-        return false;
-    }
-    let lent = input::read_list(area);
-    if !lent.whole {
-        return false;
-    }
-    let s = entries.count;
-    let m = given.i;
-    let l = given.q;
-    let n = lent.count;
+) -> Result<(), Stop> {
+    let mode = input::read_byte(from)?;
+    let size = input::read_size(from)?;
+    let s = input::read_list(from, scheme)?;
+    let (m, l) = input::read_points(from, i, q)?;
+    let n = input::read_list(from, area)?;
     receive(
+        to,
         mode,
-        size.count,
+        size,
         &scheme[0..s],
         &i[0..m],
         &q[0..l],
         &mut area[0..n],
-    )
+    )?;
+    Ok(())
 }
 
 // The call of job 5, and its response.
-fn send(mode: u8, frame: &[u8], scheme: &[u8], i: &mut [i16], q: &mut [i16]) -> bool {
+fn send<W: Write>(
+    to: &mut W,
+    mode: u8,
+    frame: &[u8],
+    scheme: &[u8],
+    i: &mut [i16],
+    q: &mut [i16],
+) -> io::Result<()> {
     let told = answers::of_written(sender_b::send_b(mode, frame, scheme, i, q));
-    output::write_sent(told, i, q)
+    output::write_sent(to, told, i, q)
 }
 
 // The call of job 6, and its response.
-fn receive(mode: u8, size: usize, scheme: &[u8], i: &[i16], q: &[i16], area: &mut [u8]) -> bool {
+fn receive<W: Write>(
+    to: &mut W,
+    mode: u8,
+    size: usize,
+    scheme: &[u8],
+    i: &[i16],
+    q: &[i16],
+    area: &mut [u8],
+) -> io::Result<()> {
     let told = answers::of_received_b(receiver_b::receive_b(mode, size, scheme, i, q, area));
-    output::write_answer(told)
-        && output::write_count(told.mended)
-        && output::write_count(told.worst)
-        && output::write_list(area)
+    output::write_answer(to, told)?;
+    output::write_count(to, told.mended)?;
+    output::write_count(to, told.worst)?;
+    output::write_list(to, area)
 }

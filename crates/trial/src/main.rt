@@ -23,10 +23,15 @@
 // opening, then of each call number, place, mended, worst and the area after it. Job 16 makes one step from any state, a list of 326 bytes
 // (stream.rt).
 //
-// Another job byte, a state of another length, a list too long for its room and a request that is cut end the program after the responses so far.
+// Another job byte, a state of another length, a list too long for its room and a request that is cut end the program after the responses so far. So does
+// a read or a write that fails, with that error.
+#![tactic(auto)]
+
 ghost use Rattle.std.specs.Prelude.{◌≡◌, length};
 
-use input::Byte;
+use std::io;
+use std::io::{Read, Write};
+use stop::Stop;
 
 mod decide;
 mod input;
@@ -34,6 +39,7 @@ mod jobs_a;
 mod jobs_b;
 mod output;
 mod parts;
+mod stop;
 mod stream;
 mod word;
 
@@ -57,53 +63,69 @@ fn levels_room() -> [i16; MOST_LEVELS]
     [0; MOST_LEVELS]
 }
 
-// Reads a request and writes its response. False ends the program.
-fn serve(
+// Reads a request and writes its response.
+fn serve<R: Read, W: Write>(
+    from: &mut R,
+    to: &mut W,
     first: &mut [u8],
     second: &mut [u8],
     i: &mut [i16],
     q: &mut [i16],
     oi: &mut [i16],
     oq: &mut [i16],
-) -> bool {
-    let Byte::Of(job) = input::read_byte() else {
-        return false;
-    };
+) -> Result<(), Stop> {
+    let job = input::read_byte(from)?;
     match job {
-        1 | 2 => word::serve(job, first, second),
-        3 => jobs_a::serve_send(first, i, q),
-        4 => jobs_a::serve_receive(i, q, first),
-        5 => jobs_b::serve_send(first, second, i, q),
-        6 => jobs_b::serve_receive(second, i, q, first),
-        7 => decide::serve_a(i, q, oi, oq),
-        8 => decide::serve_b(first, i, q, oi, oq),
-        9 => stream::serve_stream(second, i, q, first),
-        16 => stream::serve_step(i, q, first),
-        _ => false,
+        1 | 2 => word::serve(from, to, job, first, second),
+        3 => jobs_a::serve_send(from, to, first, i, q),
+        4 => jobs_a::serve_receive(from, to, i, q, first),
+        5 => jobs_b::serve_send(from, to, first, second, i, q),
+        6 => jobs_b::serve_receive(from, to, second, i, q, first),
+        7 => decide::serve_a(from, to, i, q, oi, oq),
+        8 => decide::serve_b(from, to, first, i, q, oi, oq),
+        9 => stream::serve_stream(from, to, second, i, q, first),
+        16 => stream::serve_step(from, to, i, q, first),
+        _ => Err(Stop::End),
     }
 }
 
-// A proved loop has to end, and nothing says that the input does: the turns count down from a number that no run uses up.
-fn serve_all(
+// Serves one request after another, to the end of the input. A proved loop has to end, and nothing says that the input does: the turns are as many as
+// no run uses up.
+fn serve_all<R: Read, W: Write>(
+    from: &mut R,
+    to: &mut W,
     first: &mut [u8],
     second: &mut [u8],
     i: &mut [i16],
     q: &mut [i16],
     oi: &mut [i16],
     oq: &mut [i16],
-) {
-    let mut turns = u64::MAX;
-    while turns > 0 && serve(first, second, i, q, oi, oq) {
-        turns -= 1;
+) -> io::Result<()> {
+    for _ in 0..u64::MAX {
+        match serve(from, to, first, second, i, q, oi, oq) {
+            Ok(()) => {}
+            Err(Stop::End) => break,
+            Err(Stop::Failed(error)) => return Err(error),
+        }
     }
+    Ok(())
 }
 
-fn main() {
+fn main(rt: HostRuntime) -> io::Result<()> {
     let mut first = room();
     let mut second = room();
     let mut i = levels_room();
     let mut q = levels_room();
     let mut oi = levels_room();
     let mut oq = levels_room();
-    serve_all(&mut first, &mut second, &mut i, &mut q, &mut oi, &mut oq);
+    serve_all(
+        &mut rt.reader(),
+        &mut io::writer(&rt),
+        &mut first,
+        &mut second,
+        &mut i,
+        &mut q,
+        &mut oi,
+        &mut oq,
+    )
 }

@@ -1,73 +1,99 @@
-// Writing to standard output: how a response begins, a count, a register, a byte, places, a list, the response to a send job. False says that it could not be
-// written.
-ghost use Rattle.std.specs.Prelude.{◌≡◌, ◌∷◌, ◌*◌, ◌≤◌, length};
+// Writing a response: how it begins, a count, a register, a byte, places, a list, the response to a send job. After an error some of its bytes may have
+// been written: the program writes no further.
+ghost use Rattle.std.specs.Prelude.{◌≡◌, [], ◌∷◌, ◌++◌, ◌*◌, ◌≤◌, length, OnOk};
 ghost use Rattle.std.specs.Int.{w16};
+ghost use Rattle.std.specs.Io.KnownBytes.{Appends};
 ghost use Rattle.std.proofs.Common.{of_z};
-ghost use Rattle.trial.specs.Format.{little_endian, pairs, level_bytes};
+ghost use Rattle.trial.specs.Format.{little_endian, pairs, level_bytes, head_bytes, list_bytes, level_list_bytes};
 
 use crate::parts;
 use crate::parts::PART;
 use answers::{PLACES, Told};
-use libc::STDOUT_FILENO;
+use std::io;
+use std::io::Write;
 
 // How every response begins.
-pub(crate) fn write_answer(told: Told) -> bool {
+pub(crate) fn write_answer<W: Write>(to: &mut W, told: Told) -> io::Result<()>
+    ensures { OnOk result (Appends (W.contents to.old) (W.contents to.new) (head_bytes told)) }
+{
     let bytes = head(told.number, told.place);
-    io::write_all(STDOUT_FILENO, &bytes)
+    to.write_all(&bytes)
 }
 
 // A count that an answer carries, in eight bytes.
-pub(crate) fn write_count(n: usize) -> bool {
+pub(crate) fn write_count<W: Write>(to: &mut W, n: usize) -> io::Result<()>
+    ensures { OnOk result (Appends (W.contents to.old) (W.contents to.new) (little_endian 8 n)) }
+{
     let mut bytes = [0u8; 8];
     put(n, &mut bytes);
-    io::write_all(STDOUT_FILENO, &bytes)
+    to.write_all(&bytes)
 }
 
 // A register, in two bytes.
-pub(crate) fn write_register(n: u16) -> bool {
+pub(crate) fn write_register<W: Write>(to: &mut W, n: u16) -> io::Result<()>
+    ensures { OnOk result (Appends (W.contents to.old) (W.contents to.new) (little_endian 2 n)) }
+{
     let mut bytes = [0u8; 2];
     put(n as usize, &mut bytes);
-    io::write_all(STDOUT_FILENO, &bytes)
+    to.write_all(&bytes)
 }
 
-pub(crate) fn write_byte(n: u8) -> bool {
+pub(crate) fn write_byte<W: Write>(to: &mut W, n: u8) -> io::Result<()>
+    ensures { OnOk result (Appends (W.contents to.old) (W.contents to.new) (n ∷ [])) }
+{
     let bytes = [n; 1];
-    io::write_all(STDOUT_FILENO, &bytes)
+    to.write_all(&bytes)
 }
 
 // The places that an answer lists, in two bytes each.
-pub(crate) fn write_places(places: &[u16; PLACES]) -> bool {
+pub(crate) fn write_places<W: Write>(to: &mut W, places: &[u16; PLACES]) -> io::Result<()>
+    ensures { OnOk result (Appends (W.contents to.old) (W.contents to.new) (pairs places.now)) }
+{
     let mut bytes = [0u8; 2 * PLACES];
     pack_places(places, &mut bytes);
-    io::write_all(STDOUT_FILENO, &bytes)
+    to.write_all(&bytes)
 }
 
 // A list of bytes, whole.
-pub(crate) fn write_list(elements: &[u8]) -> bool {
-    write_length(elements.len()) && write_bytes(elements)
+pub(crate) fn write_list<W: Write>(to: &mut W, elements: &[u8]) -> io::Result<()>
+    ensures { OnOk result (Appends (W.contents to.old) (W.contents to.new) (list_bytes elements.now)) }
+{
+    write_length(to, elements.len())?;
+    write_bytes(to, elements)
 }
 
 // Bytes, with no count.
-pub(crate) fn write_bytes(elements: &[u8]) -> bool {
-    io::write_all(STDOUT_FILENO, elements)
+pub(crate) fn write_bytes<W: Write>(to: &mut W, elements: &[u8]) -> io::Result<()>
+    ensures { OnOk result (Appends (W.contents to.old) (W.contents to.new) elements.now) }
+{
+    to.write_all(elements)
 }
 
 // A list of levels, whole.
-fn write_levels(levels: &[i16]) -> bool {
+fn write_levels<W: Write>(to: &mut W, levels: &[i16]) -> io::Result<()>
+    ensures { OnOk result (Appends (W.contents to.old) (W.contents to.new) (level_list_bytes levels.now)) }
+{
     let mut bytes = [0u8; 2 * PART];
-    write_length(levels.len()) && write_parts(levels, &mut bytes)
+    write_length(to, levels.len())?;
+    write_parts(to, levels, &mut bytes)
 }
 
 // The response to job 3, 5, 7 or 8: two lists of levels follow the answer.
-pub(crate) fn write_sent(told: Told, i: &[i16], q: &[i16]) -> bool {
-    write_answer(told) && write_levels(i) && write_levels(q)
+pub(crate) fn write_sent<W: Write>(to: &mut W, told: Told, i: &[i16], q: &[i16]) -> io::Result<()>
+    ensures { OnOk result (Appends (W.contents to.old) (W.contents to.new) (head_bytes told ++ level_list_bytes i.now ++ level_list_bytes q.now)) }
+{
+    write_answer(to, told)?;
+    write_levels(to, i)?;
+    write_levels(to, q)
 }
 
 // The count of a list, in four bytes.
-pub(crate) fn write_length(n: usize) -> bool {
+pub(crate) fn write_length<W: Write>(to: &mut W, n: usize) -> io::Result<()>
+    ensures { OnOk result (Appends (W.contents to.old) (W.contents to.new) (little_endian 4 n)) }
+{
     let mut bytes = [0u8; 4];
     put(n, &mut bytes);
-    io::write_all(STDOUT_FILENO, &bytes)
+    to.write_all(&bytes)
 }
 
 // The number of an answer in a byte, its place in eight.
@@ -80,27 +106,27 @@ fn head(number: u8, place: usize) -> [u8; 9]
 }
 
 // Levels, part by part, by way of bytes.
-fn write_parts(levels: &[i16], bytes: &mut [u8]) -> bool
+fn write_parts<W: Write>(to: &mut W, levels: &[i16], bytes: &mut [u8]) -> io::Result<()>
     requires { 1024 ≤ length bytes.old }
+    ensures { OnOk result (Appends (W.contents to.old) (W.contents to.new) (level_bytes levels.now)) }
 {
     let mut i: usize = 0;
     while i < levels.len() {
         let end = parts::end(i, levels.len());
-        if !write_part(&levels[i..end], bytes) {
-            return false;
-        }
+        write_part(to, &levels[i..end], bytes)?;
         i = end;
     }
-    true
+    Ok(())
 }
 
 // One part: two bytes for each level.
-fn write_part(levels: &[i16], bytes: &mut [u8]) -> bool
+fn write_part<W: Write>(to: &mut W, levels: &[i16], bytes: &mut [u8]) -> io::Result<()>
     requires { length levels.now * 2 ≤ length bytes.old }
+    ensures { OnOk result (Appends (W.contents to.old) (W.contents to.new) (level_bytes levels.now)) }
 {
     let end = levels.len() * 2;
     pack(levels, &mut bytes[0..end]);
-    io::write_all(STDOUT_FILENO, &bytes[0..end])
+    to.write_all(&bytes[0..end])
 }
 
 // The bytes of places.

@@ -5,11 +5,13 @@
 ghost use Rattle.std.specs.Prelude.{◌≡◌, ◌≤◌, length};
 ghost use Rattle.trial.specs.Courses.{Says};
 
-use crate::input::Byte;
+use crate::stop::Stop;
 use crate::{input, output};
 use answers::{ReceivedB, Refusal};
 use payload_b::stream;
 use payload_b::stream::{Course, State};
+use std::io;
+use std::io::{Read, Write};
 use symbols::grid::POINTS;
 
 // The bytes of a state.
@@ -21,82 +23,62 @@ const WORDS: usize = 8;
 // The most calls of a stream: as many as four bytes count.
 const MOST_CALLS: usize = 4294967295;
 
-// A stream after some calls of job 9: its state, and whether they were read and answered.
-#[derive(Drop)]
-struct Called {
-    state: State,
-    whole: bool,
-}
-
 // What a number and a place say of a stream, where they say anything.
-#[derive(Drop)]
+#[derive(Clone, Copy)]
 enum Said {
     Of(Course),
     Nothing,
 }
 
-// Reads the fields of job 9 up to its calls, mode, frame length, scheme, area and how many calls, opens the stream and makes them. False ends the program.
-pub(crate) fn serve_stream(
+// Reads the fields of job 9 up to its calls, mode, frame length, scheme, area and how many calls, opens the stream and makes them.
+pub(crate) fn serve_stream<R: Read, W: Write>(
+    from: &mut R,
+    to: &mut W,
     scheme: &mut [u8],
     i: &mut [i16],
     q: &mut [i16],
     area: &mut [u8],
-) -> bool {
-    let Byte::Of(mode) = input::read_byte() else {
-        return false;
-    };
-    let size = input::read_size();
-    if !size.whole {
-        return false;
-    }
-    let entries = input::read_list(scheme);
-    if !entries.whole {
-        return false;
-    }
-    let lent = input::read_list(area);
-    if !lent.whole {
-        return false;
-    }
-    let calls = input::read_count(MOST_CALLS);
-    if !calls.whole {
-        return false;
-    }
-    let s = entries.count;
-    let n = lent.count;
+) -> Result<(), Stop> {
+    let mode = input::read_byte(from)?;
+    let size = input::read_size(from)?;
+    let s = input::read_list(from, scheme)?;
+    let n = input::read_list(from, area)?;
+    let calls = input::read_count(from, MOST_CALLS)?;
     open(
+        from,
+        to,
         mode,
-        size.count,
+        size,
         &scheme[0..s],
-        calls.count,
+        calls,
         i,
         q,
         &mut area[0..n],
     )
 }
 
-// Reads the fields of job 16, state, I, Q and area, and makes the step. False ends the program.
-pub(crate) fn serve_step(i: &mut [i16], q: &mut [i16], area: &mut [u8]) -> bool {
+// Reads the fields of job 16, state, I, Q and area, and makes the step.
+pub(crate) fn serve_step<R: Read, W: Write>(
+    from: &mut R,
+    to: &mut W,
+    i: &mut [i16],
+    q: &mut [i16],
+    area: &mut [u8],
+) -> Result<(), Stop> {
     let mut bytes = [0u8; STATE];
-    let held = input::read_list(&mut bytes);
-    if !held.whole || held.count < STATE {
-        return false;
+    if input::read_list(from, &mut bytes)? < STATE {
+        return Err(Stop::End);
     }
-    let given = input::read_points(i, q);
-    if !given.whole {
-        return false;
-    }
-    let lent = input::read_list(area);
-    if !lent.whole {
-        return false;
-    }
-    let m = given.i;
-    let l = given.q;
-    let n = lent.count;
-    step(&bytes, &i[0..m], &q[0..l], &mut area[0..n])
+    let (m, l) = input::read_points(from, i, q)?;
+    let n = input::read_list(from, area)?;
+    step(to, &bytes, &i[0..m], &q[0..l], &mut area[0..n])?;
+    Ok(())
 }
 
 // The opening of job 9, its response, and the calls.
-fn open(
+fn open<R: Read, W: Write>(
+    from: &mut R,
+    to: &mut W,
     mode: u8,
     size: usize,
     scheme: &[u8],
@@ -104,78 +86,86 @@ fn open(
     i: &mut [i16],
     q: &mut [i16],
     area: &mut [u8],
-) -> bool {
+) -> Result<(), Stop> {
     let opened = receiver_b::open_b(mode, size, scheme);
     let course = opened.course;
-    output::write_answer(stream::told(course)) && call_all(calls, opened, i, q, area)
+    output::write_answer(to, stream::told(course))?;
+    call_all(from, to, calls, opened, i, q, area)
 }
 
 // The calls of job 9, each read, made and answered before the next.
-fn call_all(calls: usize, opened: State, i: &mut [i16], q: &mut [i16], area: &mut [u8]) -> bool {
-    let mut now = Called {
-        state: opened,
-        whole: true,
-    };
-    let mut left = calls;
-    while left > 0 && now.whole {
-        now = call(now, i, q, area);
-        left -= 1;
+fn call_all<R: Read, W: Write>(
+    from: &mut R,
+    to: &mut W,
+    calls: usize,
+    opened: State,
+    i: &mut [i16],
+    q: &mut [i16],
+    area: &mut [u8],
+) -> Result<(), Stop> {
+    let mut state = opened;
+    for _ in 0..calls {
+        call(from, to, &mut state, i, q, area)?;
     }
-    now.whole
+    Ok(())
 }
 
 // The next call of job 9, and its response.
-fn call(last: Called, i: &mut [i16], q: &mut [i16], area: &mut [u8]) -> Called {
-    let state = last.state;
-    let given = input::read_points(i, q);
-    if !given.whole {
-        return Called {
-            state,
-            whole: false,
-        };
-    }
-    let m = given.i;
-    let l = given.q;
-    answer(state, &i[0..m], &q[0..l], area)
+fn call<R: Read, W: Write>(
+    from: &mut R,
+    to: &mut W,
+    state: &mut State,
+    i: &mut [i16],
+    q: &mut [i16],
+    area: &mut [u8],
+) -> Result<(), Stop> {
+    let (m, l) = input::read_points(from, i, q)?;
+    answer(to, state, &i[0..m], &q[0..l], area)?;
+    Ok(())
 }
 
 // A step of job 9, and its response.
-fn answer(state: State, i: &[i16], q: &[i16], area: &mut [u8]) -> Called {
-    let stepped = receiver_b::step_b(state, i, q, area);
+fn answer<W: Write>(
+    to: &mut W,
+    state: &mut State,
+    i: &[i16],
+    q: &[i16],
+    area: &mut [u8],
+) -> io::Result<()> {
+    let stepped = receiver_b::step_b(*state, i, q, area);
     let received = stepped.answer;
-    let after = stepped.state;
-    Called {
-        state: after,
-        whole: write_received(received) && output::write_list(area),
-    }
+    *state = stepped.state;
+    write_received(to, received)?;
+    output::write_list(to, area)
 }
 
 // The step of job 16, and its response. Where number and place are those of no refusal, it is answered as a state that no stream has.
-fn step(bytes: &[u8], i: &[i16], q: &[i16], area: &mut [u8]) -> bool
+fn step<W: Write>(to: &mut W, bytes: &[u8], i: &[i16], q: &[i16], area: &mut [u8]) -> io::Result<()>
     requires { length bytes.now ≡ 326 }
 {
     let said = course_of(bytes[317], number_at(318, bytes));
     match said {
         Said::Nothing => {
-            write_received(ReceivedB::Refused(Refusal::Forged))
-                && output::write_list(bytes)
-                && output::write_list(area)
+            write_received(to, ReceivedB::Refused(Refusal::Forged))?;
+            output::write_list(to, bytes)?;
         }
         Said::Of(course) => {
             let stepped = receiver_b::step_b(state_of(bytes, course), i, q, area);
             let received = stepped.answer;
             let after = stepped.state;
-            write_received(received) && write_state(after) && output::write_list(area)
+            write_received(to, received)?;
+            write_state(to, after)?;
         }
     }
+    output::write_list(to, area)
 }
 
 // How every response to a step begins.
-fn write_received(answer: ReceivedB) -> bool {
+fn write_received<W: Write>(to: &mut W, answer: ReceivedB) -> io::Result<()> {
     let told = answers::of_received_b(answer);
-    output::write_answer(told)
-        && output::write_count(told.mended)
-        && output::write_count(told.worst)
+    output::write_answer(to, told)?;
+    output::write_count(to, told.mended)?;
+    output::write_count(to, told.worst)
 }
 
 // The course that tells this number and place, if there is one.
@@ -252,31 +242,27 @@ fn number_at(at: usize, bytes: &[u8]) -> usize
 }
 
 // A state, whole.
-fn write_state(s: State) -> bool {
+fn write_state<W: Write>(to: &mut W, s: State) -> io::Result<()> {
     let scheme = s.scheme;
     let block = s.block;
     let course = s.course;
-    output::write_length(STATE)
-        && output::write_bytes(&scheme)
-        && write_block(&block)
-        && output::write_count(s.count)
-        && output::write_byte(s.mode)
-        && output::write_count(s.size)
-        && output::write_count(s.seen)
-        && output::write_register(s.register)
-        && output::write_count(s.mended)
-        && output::write_count(s.worst)
-        && output::write_answer(stream::told(course))
+    output::write_length(to, STATE)?;
+    output::write_bytes(to, &scheme)?;
+    write_block(to, &block)?;
+    output::write_count(to, s.count)?;
+    output::write_byte(to, s.mode)?;
+    output::write_count(to, s.size)?;
+    output::write_count(to, s.seen)?;
+    output::write_register(to, s.register)?;
+    output::write_count(to, s.mended)?;
+    output::write_count(to, s.worst)?;
+    output::write_answer(to, stream::told(course))
 }
 
 // The words of a block, in eight bytes each.
-fn write_block(block: &[u64; WORDS]) -> bool {
-    let mut w: usize = 0;
-    while w < WORDS {
-        if !output::write_count(block[w] as usize) {
-            return false;
-        }
-        w += 1;
+fn write_block<W: Write>(to: &mut W, block: &[u64; WORDS]) -> io::Result<()> {
+    for word in block {
+        output::write_count(to, *word as usize)?;
     }
-    true
+    Ok(())
 }

@@ -1,0 +1,13 @@
+-- `decider::grids::by_scheme` meets its contract: OFDM symbol after OFDM symbol.
+-- Assumes nothing.
+use Prim.Native.Nat.{ℕ, ◌-◌}
+use Rattle.symbols.specs.Schemes.{repeated}
+use Rattle.decisions.specs.Decided.{scheme_tables}
+use Rattle.decider.proofs.Growing.{Underway}
+use Rattle.decider.proofs.grids.by_scheme.Given as goal
+
+abbrev pub invariant-loop-k : goal.invariant-loop-k
+invariant-loop-k l = Underway (λ (n : ℕ). scheme_tables (repeated n l.scheme)) l.m l.i l.q l.initial.oi l.initial.oq l.k l.oi l.oq
+
+abbrev pub decreases-loop-k : goal.decreases-loop-k
+decreases-loop-k l = l.m - l.k

@@ -1,0 +1,21 @@
+-- `encoder::encode_packed` meets its contract: the checks pass where there is such a code.
+-- Assumes nothing.
+use Rattle.encoder.proofs.PackedCodewords.{first_clear, first_encoded, unknown_encoded}
+use Rattle.encoder.proofs.encode_packed.Goals as goal
+
+pub codeword-requires : goal.codeword-requires
+codeword-requires c =
+    let holds = rw c.in-Known.is at c.of_number-numbered.ensures in
+    (holds.0, first_clear holds.0 _ _ c.first.ensures)
+
+pub returns-in-Known : goal.returns-in-Known
+returns-in-Known c =
+    let a = c.args in
+    let holds = rw c.in-Known.is at c.of_number-numbered.ensures in
+    first_encoded holds.0 a.words _ c.first.ensures a.code holds.1 c.codeword.result c.codeword.ensures
+
+pub returns-in-Unknown : goal.returns-in-Unknown
+returns-in-Unknown c =
+    let a = c.args in
+    let holds = rw c.in-Unknown.is at c.of_number-numbered.ensures in
+    unknown_encoded a.code holds a.words

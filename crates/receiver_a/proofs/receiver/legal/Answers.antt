@@ -1,0 +1,14 @@
+-- `receiver_a::receiver::legal` meets its contract: the two OFDM symbols, read one after the other, are the bits of the burst.
+-- Assumes nothing.
+use Rattle.receiver_a.proofs.Bursts.{burst_read, burst_pair}
+use Rattle.receiver_a.proofs.receiver.legal.Goals as goal
+
+pub read-requires : goal.read-requires
+read-requires c =
+    let h = c.requires in
+    (h.0, burst_pair c.args.i.now c.args.q.now h.1 h.2 h.4 c.read-first.ensures c.read-second.ensures, h.3)
+
+pub returns : goal.returns
+returns c =
+    let h = c.requires in
+    rw (burst_read c.args.i.now c.args.q.now h.1 h.2 h.4 c.read-first.ensures c.read-second.ensures) at c.read.ensures

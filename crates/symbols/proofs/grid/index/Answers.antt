@@ -1,0 +1,17 @@
+-- `symbols::grid::index` meets its contract, by the place that s has.
+-- Assumes nothing.
+use mathlib.Core.Path.{ap, ◌∙◌}
+use Prim.Native.Nat.{◌+◌, ◌*◌, ◌/◌, ◌%◌}
+use native.Mathlib.Numerals.{add-one}
+use native.Mathlib.Omega.{arith}
+use Rattle.symbols.specs.Grid.{carrier_of}
+use Rattle.symbols.specs.Grids.{index_of}
+use Rattle.symbols.proofs.Indices.{carrier_of-lt}
+use Rattle.symbols.proofs.grid.index.Goals as goal
+
+pub overflow_add-result : goal.overflow_add-result
+overflow_add-result c = omega (arith, carrier_of-lt (c.args.place % 210 + 1))
+
+pub returns : goal.returns
+unfolding index_of
+returns c = ap (λ k. 256 * (c.args.place / 210) + k) (c.carrier_of.ensures ∙ ap carrier_of (add-one (c.args.place % 210)))

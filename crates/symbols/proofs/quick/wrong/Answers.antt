@@ -1,0 +1,28 @@
+-- `symbols::quick::wrong` meets its contract: an OR is 0 only where each of its parts is.
+-- Assumes nothing.
+use mathlib.Core.Path.{◌≡◌, ap, ◌∙◌}
+use Prim.Native.Nat.{ℕ, ◌%◌, ◌≤◌}
+use Rattle.points.specs.Sizes.{most_of, odd_of}
+use Rattle.symbols.proofs.Schemes.{entry_cases}
+use Rattle.symbols.proofs.Ors.{or_none, xor_even}
+use Rattle.symbols.proofs.quick.wrong.Goals as goal
+
+-- levels are odd where the largest is
+most_odd : (n : ℕ) → (2 ≤ n) × (n ≤ 10) → most_of n % 2 ≡ odd_of n
+unfolding most_of odd_of
+most_odd n h = entry_cases n h (λ e. rw e) (λ e. rw e) (λ e. rw e) (λ e. rw e) (λ e. rw e) (λ e. rw e) (λ e. rw e) (λ e. rw e) (λ e. rw e)
+
+pub returns : goal.returns
+returns c none =
+    let odd = ap (λ (m : ℕ). m % 2) c.most_of-most.ensures ∙ most_odd c.args.n c.requires in
+    let five = or_none _ _ none in
+    let four = or_none _ _ five.0 in
+    let three = or_none _ _ four.0 in
+    let two = or_none _ _ three.0 in
+    record {
+      low_e = rw c.most_of-most.ensures at (c.over.ensures two.0);
+      low_f = rw c.most_of-most.ensures at (c.over-2.ensures two.1);
+      odd_e = xor_even c.args.e c.most_of-most.result three.1 ∙ odd;
+      odd_f = xor_even c.args.f c.most_of-most.result four.1 ∙ odd;
+      no_hole = c.both.ensures five.1;
+    }

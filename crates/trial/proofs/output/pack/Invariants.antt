@@ -1,0 +1,11 @@
+-- What is written so far are the bytes of the first i levels.
+use Rattle.std.proofs.Common.{◌≡◌, ◌-◌, ◌*◌, ◌≤◌, length, take}
+use Rattle.trial.specs.Format.{pairs}
+use Rattle.trial.proofs.Packing.{numbers}
+use Rattle.trial.proofs.output.pack.Given as goal
+
+abbrev pub invariant-loop-i : goal.invariant-loop-i
+invariant-loop-i l = (l.i ≤ length l.levels) × (take (l.i * 2) l.bytes ≡ pairs (take l.i (numbers l.levels)))
+
+abbrev pub decreases-loop-i : goal.decreases-loop-i
+decreases-loop-i l = length l.levels - l.i
