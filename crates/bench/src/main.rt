@@ -2,11 +2,12 @@
 // came of it. What it writes for which frame is the promise of `report`; here is reading and writing alone.
 #![tactic(auto)]
 
-ghost use Rattle.std.specs.Prelude.{◌≡◌, ℕ, ◌<◌, ◌≤◌, List, length, take, IfOk};
-ghost use Rattle.std.specs.Io.KnownBytes.{Consumes, IsAtEnd};
+ghost use Rattle.std.specs.Prelude.{◌≡◌, length, IfOk, IsTrue};
+ghost use Rattle.std.specs.Io.KnownBytes.{IsAtEnd};
+ghost use Rattle.streams.specs.Streams.{LeavesRest};
 
 use std::io;
-use std::io::{Read, Write};
+use std::io::Read;
 
 // One byte more than the longest frame has: input of so many bytes is too long, whatever follows.
 const MOST: usize = 95;
@@ -18,40 +19,43 @@ fn room() -> [u8; MOST]
     [0; MOST]
 }
 
-// Reads until the room is full or the input ends, and answers how many bytes that were. An error leaves any bytes in the room.
-fn read_full<R: Read>(from: &mut R, room: &mut [u8]) -> io::Result<usize>
-    ensures within { IfOk result (λ n. n ≤ length room.old) }
-    ensures bytes { IfOk result (λ n. Consumes (R.remaining from.old) (R.remaining from.new) (take n room.new)) }
-    ensures end { IfOk result (λ n. n < length room.old → IsAtEnd (R.remaining from.new)) }
-    // Whatever comes of it, what is left of the input is its rest.
-    ensures rest { (gone : List ℕ) × Consumes (R.remaining from.old) (R.remaining from.new) gone }
+// Reads what follows to its end, so that whoever writes it is not cut off, and answers whether it came there. A proved loop has to end, and nothing says that
+// the input does: the turns are as many as no run uses up.
+fn skip_rest<R: Read>(from: &mut R) -> io::Result<bool>
+    ensures end { IfOk result (λ ended. IsTrue ended → IsAtEnd (R.remaining from.new)) }
+    ensures rest { LeavesRest (R.remaining from.old) (R.remaining from.new) }
 {
-    let mut done = 0;
-    while done < room.len() {
-        let n = from.read(&mut room[done..])?;
-        if n == 0 {
-            break;
+    let mut skipped = [0u8; 4096];
+    for _ in 0..u64::MAX {
+        if streams::read_full(from, &mut skipped)? < skipped.len() {
+            return Ok(true);
         }
-        done += n;
     }
-    Ok(done)
-}
-
-// Reads what follows to its end, so that whoever writes it is not cut off.
-fn skip_rest<R: Read>(from: &mut R) -> io::Result<()> {
-    io::copy(from, &mut io::sink())?;
-    Ok(())
+    Ok(false)
 }
 
 fn main(rt: HostRuntime) -> io::Result<()> {
     let mut from = rt.reader();
     let mut input = room();
-    let n = read_full(&mut from, &mut input)?;
+    let n = streams::read_full(&mut from, &mut input)?;
     if n == MOST {
         skip_rest(&mut from)?;
     }
     let text = report::report(&input[..n]);
     let bytes = text.bytes;
     let count = text.count;
-    io::writer(&rt).write_all(&bytes[..count])
+    streams::write_whole(&mut io::writer(&rt), &bytes[..count])
+}
+
+#[cfg(test)]
+mod tests {
+    use crate::skip_rest;
+
+    #[test]
+    fn skips_to_the_end(rt: HostRuntime) {
+        let long = [7u8; 10000];
+        let mut input = &long[..];
+        assert!(rt; matches!(skip_rest(&mut input), Ok(true)));
+        assert!(rt; input.is_empty());
+    }
 }

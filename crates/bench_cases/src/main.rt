@@ -2,13 +2,14 @@
 // them say which bytes they hold.
 #![tactic(auto)]
 
-ghost use Rattle.std.specs.Prelude.{◌≡◌, ℕ, ◌<◌, ◌≤◌, List, length, take, IfOk};
-ghost use Rattle.std.specs.Io.KnownBytes.{Consumes, IsAtEnd};
+ghost use Rattle.std.specs.Prelude.{◌≡◌, length};
+ghost use Rattle.streams.specs.Streams.{LeavesRest, Grows};
 
+use std::env::FillError;
 use std::fs::File;
 use std::io::{Read, Write};
-use std::rt::Files;
-use std::{env, io};
+use std::rt::{Env, Files};
+use std::{io, str};
 
 // What the bench program reads of its input, at most.
 const MOST: usize = 95;
@@ -20,33 +21,20 @@ fn room() -> [u8; MOST]
     [0; MOST]
 }
 
-// Reads until the room is full or the input ends, and answers how many bytes that were. An error leaves any bytes in the room.
-fn read_full<R: Read>(from: &mut R, room: &mut [u8]) -> io::Result<usize>
-    ensures within { IfOk result (λ n. n ≤ length room.old) }
-    ensures bytes { IfOk result (λ n. Consumes (R.remaining from.old) (R.remaining from.new) (take n room.new)) }
-    ensures end { IfOk result (λ n. n < length room.old → IsAtEnd (R.remaining from.new)) }
-    // Whatever comes of it, what is left of the input is its rest.
-    ensures rest { (gone : List ℕ) × Consumes (R.remaining from.old) (R.remaining from.new) gone }
-{
-    let mut done = 0;
-    while done < room.len() {
-        let n = from.read(&mut room[done..])?;
-        if n == 0 {
-            break;
-        }
-        done += n;
-    }
-    Ok(done)
-}
+// The most bytes of an argument: as many as a path has.
+const PATH: usize = 4096;
 
 // Writes the report on what a file holds.
-fn show<R: Read, W: Write>(from: &mut R, to: &mut W) -> io::Result<()> {
+fn show<R: Read, W: Write>(from: &mut R, to: &mut W) -> io::Result<()>
+    ensures rest { LeavesRest (R.remaining from.old) (R.remaining from.new) }
+    ensures grows { Grows (W.contents to.old) (W.contents to.new) }
+{
     let mut input = room();
-    let n = read_full(from, &mut input)?;
+    let n = streams::read_full(from, &mut input)?;
     let text = report::report(&input[..n]);
     let bytes = text.bytes;
     let count = text.count;
-    to.write_all(&bytes[..count])
+    streams::write_whole(to, &bytes[..count])
 }
 
 // Writes the report on the file that an argument names. One that cannot be opened is named on standard error, and the next one follows.
@@ -57,9 +45,19 @@ fn show_argument(rt: &(impl Files + Print + Eprint), path: &str) -> io::Result<(
     }
 }
 
+// An argument that is longer than a path is taken for an empty one, which names no file.
 fn main(rt: HostRuntime) -> io::Result<()> {
-    for path in env::args(&rt)?.skip(1) {
-        show_argument(&rt, path.as_str())?;
+    let mut room = [0u8; PATH];
+    for i in 1..usize::MAX {
+        let n = match rt.arg(i, &mut room) {
+            Ok(n) => n,
+            Err(FillError::TooLong) => 0,
+            Err(FillError::NotPresent) => break,
+        };
+        match str::from_utf8(&room[..n]) {
+            Ok(path) => show_argument(&rt, path)?,
+            Err(_) => eprintln!(rt; "argument {i} is not UTF-8")?,
+        }
     }
     Ok(())
 }

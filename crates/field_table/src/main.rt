@@ -2,6 +2,8 @@
 // Its file `stdout` is what `second field` writes, so that a run of this program holds the two fields together.
 #![tactic(auto)]
 
+ghost use Rattle.streams.specs.Streams.{Grows};
+
 use std::io;
 use std::io::Write;
 
@@ -22,14 +24,16 @@ fn high(v: u16) -> u8 {
     (v / 256) as u8
 }
 
-fn write_row<W: Write>(row: u16, to: &mut W) -> io::Result<()> {
+fn write_row<W: Write>(row: u16, to: &mut W) -> io::Result<()>
+    ensures { Grows (W.contents to.old) (W.contents to.new) }
+{
     let mut out = [0u8; 1024];
     for y in 0..512usize {
         let v = entry(row, y as u16);
         out[y * 2] = low(v);
         out[y * 2 + 1] = high(v);
     }
-    to.write_all(&out)
+    streams::write_whole(to, &out)
 }
 
 fn main(rt: HostRuntime) -> io::Result<()> {

@@ -3,6 +3,8 @@
 // holds the two sets of tables together.
 #![tactic(auto)]
 
+ghost use Rattle.streams.specs.Streams.{Grows};
+
 use points::{Label, Point, constellation};
 use std::io;
 use std::io::Write;
@@ -17,23 +19,29 @@ fn main(rt: HostRuntime) -> io::Result<()> {
 }
 
 // The points of all labels of so many bits.
-fn write_points<W: Write>(bits: u8, to: &mut W) -> io::Result<()> {
+fn write_points<W: Write>(bits: u8, to: &mut W) -> io::Result<()>
+    ensures { Grows (W.contents to.old) (W.contents to.new) }
+{
     for label in 0..1024u16 {
         write_point(constellation::point(bits, label), to)?;
     }
     Ok(())
 }
 
-fn write_point<W: Write>(point: Point, to: &mut W) -> io::Result<()> {
+fn write_point<W: Write>(point: Point, to: &mut W) -> io::Result<()>
+    ensures { Grows (W.contents to.old) (W.contents to.new) }
+{
     match point {
         Point::At { i, q } => write_levels(complement(i), complement(q), to),
         Point::Nothing => Ok(()),
     }
 }
 
-fn write_levels<W: Write>(i: u16, q: u16, to: &mut W) -> io::Result<()> {
+fn write_levels<W: Write>(i: u16, q: u16, to: &mut W) -> io::Result<()>
+    ensures { Grows (W.contents to.old) (W.contents to.new) }
+{
     let out = [low(i), high(i), low(q), high(q)];
-    to.write_all(&out)
+    streams::write_whole(to, &out)
 }
 
 // The level's two's complement.
@@ -45,21 +53,25 @@ fn complement(v: i16) -> u16 {
 }
 
 // The labels of so many bits of all points near the middle.
-fn write_labels<W: Write>(bits: u8, to: &mut W) -> io::Result<()> {
+fn write_labels<W: Write>(bits: u8, to: &mut W) -> io::Result<()>
+    ensures { Grows (W.contents to.old) (W.contents to.new) }
+{
     for x in 0..81usize {
         write_row(bits, level(x), to)?;
     }
     Ok(())
 }
 
-fn write_row<W: Write>(bits: u8, i: i16, to: &mut W) -> io::Result<()> {
+fn write_row<W: Write>(bits: u8, i: i16, to: &mut W) -> io::Result<()>
+    ensures { Grows (W.contents to.old) (W.contents to.new) }
+{
     let mut out = [0u8; 162];
     for y in 0..81usize {
         let v = number(constellation::label(bits, i, level(y)));
         out[y * 2] = low(v);
         out[y * 2 + 1] = high(v);
     }
-    to.write_all(&out)
+    streams::write_whole(to, &out)
 }
 
 // The level at a place from 0 to 80.

@@ -1,3 +1,3 @@
 -- The laws of the crate.
 pub mod Packing
-pub mod Streams
+pub mod Streaming

@@ -1,11 +1,12 @@
 -- Numbers in bytes: how many there are, and packed one after the other.
 -- Assumes nothing.
-use Rattle.std.proofs.Common.{◌≡◌, ℕ, zero, suc, ◌+◌, ◌-◌, ◌*◌, ◌/◌, ◌≤◌, ◌<◌, List, [], ◌∷◌, ◌++◌, refl, sym, ap, ◌∙◌, append-nil, append_assoc, add-one, arith, ℤ, of_z, map, length, get_or, take, drop, length-append, length-drop, length-take-le}
-use borrow.Rule.Slice.PartMut.{put_mid, post_of}
-use lib.Seq.{take-suc, take_all, take_at, take-add}
+use Rattle.std.proofs.Common.{◌≡◌, ℕ, zero, suc, ◌+◌, ◌-◌, ◌*◌, ◌/◌, ◌≤◌, ◌<◌, List, [], ◌∷◌, ◌++◌, refl, sym, ap, ◌∙◌, append-nil, append_assoc, add-one, arith, ℤ, of_z, map, length, get_or, take, drop, take-append-drop}
+use borrow.Rule.Slice.PartMut.{put_mid}
+use lib.Seq.{take-suc, take_all, take-add}
 use Rattle.std.proofs.lemmas.List.{map-append}
 use mir.Syntax.{w16}
-use Rattle.trial.specs.Format.{little_endian, pairs, level_bytes}
+use Rattle.bits.proofs.Copies.{part_long, part_written}
+use Rattle.trial.specs.Format.{little_endian, pairs, word_bytes, level_bytes}
 
 pub length-little_endian : (k n : ℕ) → length (little_endian k n) ≡ k
 unfolding little_endian
@@ -20,17 +21,6 @@ packed_append (m ∷ ms) ns = rw (packed_append ms ns, append_assoc)
 packed_snoc : (ns : List ℕ) (n : ℕ) → pairs (ns ++ (n ∷ [])) ≡ pairs ns ++ little_endian 2 n
 unfolding pairs
 packed_snoc ns n = packed_append ns (n ∷ []) ∙ ap (λ (bs : List ℕ). pairs ns ++ bs) (append-nil (little_endian 2 n))
-
--- the part of k places from a on
-module _ (a k : ℕ) (xs : List ℕ) (fits : a + k ≤ length xs) where
-  part_long : length (take k (drop a xs)) ≡ k
-  part_long = length-take-le k (drop a xs) (simp length-drop (omega arith))
-
-  -- what stands up to its end
-  part_written : (ys : List ℕ) → length ys ≡ k → take (a + k) (put_mid a k xs ys) ≡ take a xs ++ ys
-  part_written ys e =
-      let long : length (take a xs ++ ys) ≡ a + k = omega (arith, length-append (take a xs) ys, length-take-le a xs (omega arith)) in
-      ap (take (a + k)) (sym (append_assoc (take a xs) ys (post_of a k xs))) ∙ take_at (take a xs ++ ys) (post_of a k xs) (a + k) long
 
 -- ---- numbers packed one after the other: the bytes of the first i
 
@@ -62,3 +52,35 @@ part_behind levels i j h =
     let e : i + (j - i) ≡ j = omega arith in
     ap (λ (n : ℕ). level_bytes (take n levels)) (sym e) ∙ ap level_bytes (take-add i (j - i) levels)
     ∙ ap pairs (map-append (of_z w16) (take i levels) (take (j - i) (drop i levels))) ∙ packed_append (numbers (take i levels)) (numbers (take (j - i) (drop i levels)))
+
+-- the bytes of the levels are those of the levels before i, of the part up to j, and of the levels from j on
+pub parts_left : (levels : List ℤ) (i j : ℕ) → i ≤ j
+    → level_bytes levels ≡ level_bytes (take i levels) ++ (level_bytes (take (j - i) (drop i levels)) ++ level_bytes (drop j levels))
+parts_left levels i j h =
+    ap level_bytes (sym (take-append-drop j levels)) ∙ ap pairs (map-append (of_z w16) (take j levels) (drop j levels))
+    ∙ packed_append (numbers (take j levels)) (numbers (drop j levels))
+    ∙ ap (λ (bs : List ℕ). bs ++ level_bytes (drop j levels)) (part_behind levels i j h)
+    ∙ append_assoc (level_bytes (take i levels)) (level_bytes (take (j - i) (drop i levels))) (level_bytes (drop j levels))
+
+-- ---- words, one after the other
+
+pub words_append : (ms ns : List ℕ) → word_bytes (ms ++ ns) ≡ word_bytes ms ++ word_bytes ns
+unfolding word_bytes
+words_append [] ns = refl
+words_append (m ∷ ms) ns = rw (words_append ms ns, append_assoc)
+
+words_snoc : (ns : List ℕ) (n : ℕ) → word_bytes (ns ++ (n ∷ [])) ≡ word_bytes ns ++ little_endian 8 n
+unfolding word_bytes
+words_snoc ns n = words_append ns (n ∷ []) ∙ ap (λ (bs : List ℕ). word_bytes ns ++ bs) (append-nil (little_endian 8 n))
+
+module _ (words : List ℕ) (i : ℕ) (h : i < length words) where
+  -- the bytes of the word at i stand after those of the words before it
+  pub word_after : word_bytes (take (i + 1) words) ≡ word_bytes (take i words) ++ little_endian 8 (get_or words i 0)
+  word_after = rw (add-one, take-suc words i 0 h) (words_snoc (take i words) (get_or words i 0))
+
+  -- the bytes of the words are those of the words before i, of the word at i, and of the words after it
+  pub words_left : word_bytes words ≡ word_bytes (take i words) ++ (little_endian 8 (get_or words i 0) ++ word_bytes (drop (i + 1) words))
+  words_left =
+      ap word_bytes (sym (take-append-drop (i + 1) words)) ∙ words_append (take (i + 1) words) (drop (i + 1) words)
+      ∙ ap (λ (bs : List ℕ). bs ++ word_bytes (drop (i + 1) words)) word_after
+      ∙ append_assoc (word_bytes (take i words)) (little_endian 8 (get_or words i 0)) (word_bytes (drop (i + 1) words))

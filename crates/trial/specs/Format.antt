@@ -20,6 +20,11 @@ unfoldable pub pairs : List ℕ → List ℕ
 pairs [] = []
 pairs (n ∷ ns) = little_endian 2 n ++ pairs ns
 
+-- numbers in eight bytes each
+unfoldable pub word_bytes : List ℕ → List ℕ
+word_bytes [] = []
+word_bytes (n ∷ ns) = little_endian 8 n ++ word_bytes ns
+
 -- levels in two bytes each, in two's complement
 abbrev pub level_bytes : List ℤ → List ℕ
 level_bytes levels = pairs (map (of_z w16) levels)
@@ -34,6 +39,10 @@ levels_in (suc n) bs = to_z w16 (value (take 2 bs)) ∷ levels_in n (drop 2 bs)
 -- an answer's number in a byte, its place in eight
 abbrev pub head_bytes : Told → List ℕ
 head_bytes told = told.number ∷ little_endian 8 told.place
+
+-- how the response to a step begins: the answer, and how many it mended in all and in the worst word
+abbrev pub received_bytes : Told → List ℕ
+received_bytes told = head_bytes told ++ little_endian 8 told.mended ++ little_endian 8 told.worst
 
 -- a list of bytes: its count in four bytes, and its elements
 abbrev pub list_bytes : List ℕ → List ℕ

@@ -1,4 +1,6 @@
 // Jobs 7 and 8: decide the points of Payload A and of Payload B.
+ghost use Rattle.streams.specs.Streams.{LeavesRest, Grows};
+
 use crate::stop::Stop;
 use crate::{input, output};
 use std::io;
@@ -12,7 +14,10 @@ pub(crate) fn serve_a<R: Read, W: Write>(
     q: &mut [i16],
     oi: &mut [i16],
     oq: &mut [i16],
-) -> Result<(), Stop> {
+) -> Result<(), Stop>
+    ensures rest { LeavesRest (R.remaining from.old) (R.remaining from.new) }
+    ensures grows { Grows (W.contents to.old) (W.contents to.new) }
+{
     let mode = input::read_byte(from)?;
     let (m, l) = input::read_points(from, i, q)?;
     let (n, o) = input::read_points(from, oi, oq)?;
@@ -29,7 +34,10 @@ pub(crate) fn serve_b<R: Read, W: Write>(
     q: &mut [i16],
     oi: &mut [i16],
     oq: &mut [i16],
-) -> Result<(), Stop> {
+) -> Result<(), Stop>
+    ensures rest { LeavesRest (R.remaining from.old) (R.remaining from.new) }
+    ensures grows { Grows (W.contents to.old) (W.contents to.new) }
+{
     let mode = input::read_byte(from)?;
     let size = input::read_size(from)?;
     let s = input::read_list(from, scheme)?;
@@ -47,7 +55,10 @@ fn serve_grid<R: Read, W: Write>(
     q: &mut [i16],
     oi: &mut [i16],
     oq: &mut [i16],
-) -> Result<(), Stop> {
+) -> Result<(), Stop>
+    ensures rest { LeavesRest (R.remaining from.old) (R.remaining from.new) }
+    ensures grows { Grows (W.contents to.old) (W.contents to.new) }
+{
     let (m, l) = input::read_points(from, i, q)?;
     let (n, o) = input::read_points(from, oi, oq)?;
     decide_b(
@@ -71,7 +82,9 @@ fn decide_a<W: Write>(
     q: &[i16],
     oi: &mut [i16],
     oq: &mut [i16],
-) -> io::Result<()> {
+) -> io::Result<()>
+    ensures grows { Grows (W.contents to.old) (W.contents to.new) }
+{
     let told = answers::of_written(decider::decide_a(mode, i, q, oi, oq));
     output::write_sent(to, told, oi, oq)
 }
@@ -86,7 +99,9 @@ fn decide_b<W: Write>(
     q: &[i16],
     oi: &mut [i16],
     oq: &mut [i16],
-) -> io::Result<()> {
+) -> io::Result<()>
+    ensures grows { Grows (W.contents to.old) (W.contents to.new) }
+{
     let told = answers::of_written(decider::decide_b(mode, size, scheme, i, q, oi, oq));
     output::write_sent(to, told, oi, oq)
 }

@@ -7,7 +7,7 @@ ghost use Rattle.std.specs.Int.{w16};
 ghost use Rattle.std.specs.Io.KnownBytes.{Consumes, IsAtEnd};
 ghost use Rattle.std.proofs.Common.{to_z};
 ghost use Rattle.trial.specs.Format.{value, levels_in};
-ghost use Rattle.trial.specs.Streams.{LeavesRest};
+ghost use Rattle.streams.specs.Streams.{LeavesRest};
 
 use crate::parts;
 use crate::parts::PART;
@@ -20,13 +20,8 @@ fn fill<R: Read>(from: &mut R, room: &mut [u8]) -> Result<(), Stop>
     ensures end { IsErrOf result Stop.End → IsAtEnd (R.remaining from.new) }
     ensures rest { LeavesRest (R.remaining from.old) (R.remaining from.new) }
 {
-    let mut done = 0;
-    while done < room.len() {
-        let n = from.read(&mut room[done..])?;
-        if n == 0 {
-            return Err(Stop::End);
-        }
-        done += n;
+    if streams::read_full(from, room)? < room.len() {
+        return Err(Stop::End);
     }
     Ok(())
 }

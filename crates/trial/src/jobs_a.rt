@@ -1,4 +1,6 @@
 // Jobs 3 and 4: send and receive Payload A.
+ghost use Rattle.streams.specs.Streams.{LeavesRest, Grows};
+
 use crate::stop::Stop;
 use crate::{input, output};
 use std::io;
@@ -11,7 +13,10 @@ pub(crate) fn serve_send<R: Read, W: Write>(
     frame: &mut [u8],
     i: &mut [i16],
     q: &mut [i16],
-) -> Result<(), Stop> {
+) -> Result<(), Stop>
+    ensures rest { LeavesRest (R.remaining from.old) (R.remaining from.new) }
+    ensures grows { Grows (W.contents to.old) (W.contents to.new) }
+{
     let mode = input::read_byte(from)?;
     let n = input::read_list(from, frame)?;
     let (m, l) = input::read_points(from, i, q)?;
@@ -26,7 +31,10 @@ pub(crate) fn serve_receive<R: Read, W: Write>(
     i: &mut [i16],
     q: &mut [i16],
     area: &mut [u8],
-) -> Result<(), Stop> {
+) -> Result<(), Stop>
+    ensures rest { LeavesRest (R.remaining from.old) (R.remaining from.new) }
+    ensures grows { Grows (W.contents to.old) (W.contents to.new) }
+{
     let mode = input::read_byte(from)?;
     let (m, l) = input::read_points(from, i, q)?;
     let n = input::read_list(from, area)?;
@@ -41,19 +49,17 @@ fn send<W: Write>(
     frame: &[u8],
     i: &mut [i16],
     q: &mut [i16],
-) -> io::Result<()> {
+) -> io::Result<()>
+    ensures grows { Grows (W.contents to.old) (W.contents to.new) }
+{
     let told = answers::of_written(sender_a::send_a(mode, frame, i, q));
     output::write_sent(to, told, i, q)
 }
 
 // The call of job 4, and its response.
-fn receive<W: Write>(
-    to: &mut W,
-    mode: u8,
-    i: &[i16],
-    q: &[i16],
-    area: &mut [u8],
-) -> io::Result<()> {
+fn receive<W: Write>(to: &mut W, mode: u8, i: &[i16], q: &[i16], area: &mut [u8]) -> io::Result<()>
+    ensures grows { Grows (W.contents to.old) (W.contents to.new) }
+{
     let received = receiver_a::receive_a(mode, i, q, area);
     let answer = received.answer;
     let told = answers::of_received_a(answer);

@@ -1,4 +1,6 @@
 // Jobs 5 and 6: send and receive Payload B.
+ghost use Rattle.streams.specs.Streams.{LeavesRest, Grows};
+
 use crate::stop::Stop;
 use crate::{input, output};
 use std::io;
@@ -12,7 +14,10 @@ pub(crate) fn serve_send<R: Read, W: Write>(
     scheme: &mut [u8],
     i: &mut [i16],
     q: &mut [i16],
-) -> Result<(), Stop> {
+) -> Result<(), Stop>
+    ensures rest { LeavesRest (R.remaining from.old) (R.remaining from.new) }
+    ensures grows { Grows (W.contents to.old) (W.contents to.new) }
+{
     let mode = input::read_byte(from)?;
     let n = input::read_list(from, frame)?;
     let s = input::read_list(from, scheme)?;
@@ -36,7 +41,10 @@ pub(crate) fn serve_receive<R: Read, W: Write>(
     i: &mut [i16],
     q: &mut [i16],
     area: &mut [u8],
-) -> Result<(), Stop> {
+) -> Result<(), Stop>
+    ensures rest { LeavesRest (R.remaining from.old) (R.remaining from.new) }
+    ensures grows { Grows (W.contents to.old) (W.contents to.new) }
+{
     let mode = input::read_byte(from)?;
     let size = input::read_size(from)?;
     let s = input::read_list(from, scheme)?;
@@ -62,7 +70,9 @@ fn send<W: Write>(
     scheme: &[u8],
     i: &mut [i16],
     q: &mut [i16],
-) -> io::Result<()> {
+) -> io::Result<()>
+    ensures grows { Grows (W.contents to.old) (W.contents to.new) }
+{
     let told = answers::of_written(sender_b::send_b(mode, frame, scheme, i, q));
     output::write_sent(to, told, i, q)
 }
@@ -76,7 +86,9 @@ fn receive<W: Write>(
     i: &[i16],
     q: &[i16],
     area: &mut [u8],
-) -> io::Result<()> {
+) -> io::Result<()>
+    ensures grows { Grows (W.contents to.old) (W.contents to.new) }
+{
     let told = answers::of_received_b(receiver_b::receive_b(mode, size, scheme, i, q, area));
     output::write_answer(to, told)?;
     output::write_count(to, told.mended)?;

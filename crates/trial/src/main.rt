@@ -28,6 +28,7 @@
 #![tactic(auto)]
 
 ghost use Rattle.std.specs.Prelude.{◌≡◌, length};
+ghost use Rattle.streams.specs.Streams.{LeavesRest, Grows};
 
 use std::io;
 use std::io::{Read, Write};
@@ -73,7 +74,10 @@ fn serve<R: Read, W: Write>(
     q: &mut [i16],
     oi: &mut [i16],
     oq: &mut [i16],
-) -> Result<(), Stop> {
+) -> Result<(), Stop>
+    ensures rest { LeavesRest (R.remaining from.old) (R.remaining from.new) }
+    ensures grows { Grows (W.contents to.old) (W.contents to.new) }
+{
     let job = input::read_byte(from)?;
     match job {
         1 | 2 => word::serve(from, to, job, first, second),
@@ -100,7 +104,10 @@ fn serve_all<R: Read, W: Write>(
     q: &mut [i16],
     oi: &mut [i16],
     oq: &mut [i16],
-) -> io::Result<()> {
+) -> io::Result<()>
+    ensures rest { LeavesRest (R.remaining from.old) (R.remaining from.new) }
+    ensures grows { Grows (W.contents to.old) (W.contents to.new) }
+{
     for _ in 0..u64::MAX {
         match serve(from, to, first, second, i, q, oi, oq) {
             Ok(()) => {}

@@ -1,9 +1,10 @@
-// Writing a response: how it begins, a count, a register, a byte, places, a list, the response to a send job. After an error some of its bytes may have
-// been written: the program writes no further.
+// Writing a response: how it begins, a count, a register, a byte, places, a list, the response to a send job. After an error a front of the bytes is
+// written, and the clause `front` says so; the program writes no further.
 ghost use Rattle.std.specs.Prelude.{◌≡◌, [], ◌∷◌, ◌++◌, ◌*◌, ◌≤◌, length, OnOk};
 ghost use Rattle.std.specs.Int.{w16};
 ghost use Rattle.std.specs.Io.KnownBytes.{Appends};
 ghost use Rattle.std.proofs.Common.{of_z};
+ghost use Rattle.streams.specs.Streams.{AppendsFront};
 ghost use Rattle.trial.specs.Format.{little_endian, pairs, level_bytes, head_bytes, list_bytes, level_list_bytes};
 
 use crate::parts;
@@ -14,49 +15,55 @@ use std::io::Write;
 
 // How every response begins.
 pub(crate) fn write_answer<W: Write>(to: &mut W, told: Told) -> io::Result<()>
-    ensures { OnOk result (Appends (W.contents to.old) (W.contents to.new) (head_bytes told)) }
+    ensures ok { OnOk result (Appends (W.contents to.old) (W.contents to.new) (head_bytes told)) }
+    ensures front { AppendsFront (W.contents to.old) (W.contents to.new) (head_bytes told) }
 {
     let bytes = head(told.number, told.place);
-    to.write_all(&bytes)
+    streams::write_whole(to, &bytes)
 }
 
 // A count that an answer carries, in eight bytes.
 pub(crate) fn write_count<W: Write>(to: &mut W, n: usize) -> io::Result<()>
-    ensures { OnOk result (Appends (W.contents to.old) (W.contents to.new) (little_endian 8 n)) }
+    ensures ok { OnOk result (Appends (W.contents to.old) (W.contents to.new) (little_endian 8 n)) }
+    ensures front { AppendsFront (W.contents to.old) (W.contents to.new) (little_endian 8 n) }
 {
     let mut bytes = [0u8; 8];
     put(n, &mut bytes);
-    to.write_all(&bytes)
+    streams::write_whole(to, &bytes)
 }
 
 // A register, in two bytes.
 pub(crate) fn write_register<W: Write>(to: &mut W, n: u16) -> io::Result<()>
-    ensures { OnOk result (Appends (W.contents to.old) (W.contents to.new) (little_endian 2 n)) }
+    ensures ok { OnOk result (Appends (W.contents to.old) (W.contents to.new) (little_endian 2 n)) }
+    ensures front { AppendsFront (W.contents to.old) (W.contents to.new) (little_endian 2 n) }
 {
     let mut bytes = [0u8; 2];
     put(n as usize, &mut bytes);
-    to.write_all(&bytes)
+    streams::write_whole(to, &bytes)
 }
 
 pub(crate) fn write_byte<W: Write>(to: &mut W, n: u8) -> io::Result<()>
-    ensures { OnOk result (Appends (W.contents to.old) (W.contents to.new) (n ∷ [])) }
+    ensures ok { OnOk result (Appends (W.contents to.old) (W.contents to.new) (n ∷ [])) }
+    ensures front { AppendsFront (W.contents to.old) (W.contents to.new) (n ∷ []) }
 {
     let bytes = [n; 1];
-    to.write_all(&bytes)
+    streams::write_whole(to, &bytes)
 }
 
 // The places that an answer lists, in two bytes each.
 pub(crate) fn write_places<W: Write>(to: &mut W, places: &[u16; PLACES]) -> io::Result<()>
-    ensures { OnOk result (Appends (W.contents to.old) (W.contents to.new) (pairs places.now)) }
+    ensures ok { OnOk result (Appends (W.contents to.old) (W.contents to.new) (pairs places.now)) }
+    ensures front { AppendsFront (W.contents to.old) (W.contents to.new) (pairs places.now) }
 {
     let mut bytes = [0u8; 2 * PLACES];
     pack_places(places, &mut bytes);
-    to.write_all(&bytes)
+    streams::write_whole(to, &bytes)
 }
 
 // A list of bytes, whole.
 pub(crate) fn write_list<W: Write>(to: &mut W, elements: &[u8]) -> io::Result<()>
-    ensures { OnOk result (Appends (W.contents to.old) (W.contents to.new) (list_bytes elements.now)) }
+    ensures ok { OnOk result (Appends (W.contents to.old) (W.contents to.new) (list_bytes elements.now)) }
+    ensures front { AppendsFront (W.contents to.old) (W.contents to.new) (list_bytes elements.now) }
 {
     write_length(to, elements.len())?;
     write_bytes(to, elements)
@@ -64,14 +71,16 @@ pub(crate) fn write_list<W: Write>(to: &mut W, elements: &[u8]) -> io::Result<()
 
 // Bytes, with no count.
 pub(crate) fn write_bytes<W: Write>(to: &mut W, elements: &[u8]) -> io::Result<()>
-    ensures { OnOk result (Appends (W.contents to.old) (W.contents to.new) elements.now) }
+    ensures ok { OnOk result (Appends (W.contents to.old) (W.contents to.new) elements.now) }
+    ensures front { AppendsFront (W.contents to.old) (W.contents to.new) elements.now }
 {
-    to.write_all(elements)
+    streams::write_whole(to, elements)
 }
 
 // A list of levels, whole.
 fn write_levels<W: Write>(to: &mut W, levels: &[i16]) -> io::Result<()>
-    ensures { OnOk result (Appends (W.contents to.old) (W.contents to.new) (level_list_bytes levels.now)) }
+    ensures ok { OnOk result (Appends (W.contents to.old) (W.contents to.new) (level_list_bytes levels.now)) }
+    ensures front { AppendsFront (W.contents to.old) (W.contents to.new) (level_list_bytes levels.now) }
 {
     let mut bytes = [0u8; 2 * PART];
     write_length(to, levels.len())?;
@@ -80,7 +89,8 @@ fn write_levels<W: Write>(to: &mut W, levels: &[i16]) -> io::Result<()>
 
 // The response to job 3, 5, 7 or 8: two lists of levels follow the answer.
 pub(crate) fn write_sent<W: Write>(to: &mut W, told: Told, i: &[i16], q: &[i16]) -> io::Result<()>
-    ensures { OnOk result (Appends (W.contents to.old) (W.contents to.new) (head_bytes told ++ level_list_bytes i.now ++ level_list_bytes q.now)) }
+    ensures ok { OnOk result (Appends (W.contents to.old) (W.contents to.new) (head_bytes told ++ level_list_bytes i.now ++ level_list_bytes q.now)) }
+    ensures front { AppendsFront (W.contents to.old) (W.contents to.new) (head_bytes told ++ level_list_bytes i.now ++ level_list_bytes q.now) }
 {
     write_answer(to, told)?;
     write_levels(to, i)?;
@@ -89,11 +99,12 @@ pub(crate) fn write_sent<W: Write>(to: &mut W, told: Told, i: &[i16], q: &[i16])
 
 // The count of a list, in four bytes.
 pub(crate) fn write_length<W: Write>(to: &mut W, n: usize) -> io::Result<()>
-    ensures { OnOk result (Appends (W.contents to.old) (W.contents to.new) (little_endian 4 n)) }
+    ensures ok { OnOk result (Appends (W.contents to.old) (W.contents to.new) (little_endian 4 n)) }
+    ensures front { AppendsFront (W.contents to.old) (W.contents to.new) (little_endian 4 n) }
 {
     let mut bytes = [0u8; 4];
     put(n, &mut bytes);
-    to.write_all(&bytes)
+    streams::write_whole(to, &bytes)
 }
 
 // The number of an answer in a byte, its place in eight.
@@ -108,7 +119,8 @@ fn head(number: u8, place: usize) -> [u8; 9]
 // Levels, part by part, by way of bytes.
 fn write_parts<W: Write>(to: &mut W, levels: &[i16], bytes: &mut [u8]) -> io::Result<()>
     requires { 1024 ≤ length bytes.old }
-    ensures { OnOk result (Appends (W.contents to.old) (W.contents to.new) (level_bytes levels.now)) }
+    ensures ok { OnOk result (Appends (W.contents to.old) (W.contents to.new) (level_bytes levels.now)) }
+    ensures front { AppendsFront (W.contents to.old) (W.contents to.new) (level_bytes levels.now) }
 {
     let mut i: usize = 0;
     while i < levels.len() {
@@ -122,11 +134,12 @@ fn write_parts<W: Write>(to: &mut W, levels: &[i16], bytes: &mut [u8]) -> io::Re
 // One part: two bytes for each level.
 fn write_part<W: Write>(to: &mut W, levels: &[i16], bytes: &mut [u8]) -> io::Result<()>
     requires { length levels.now * 2 ≤ length bytes.old }
-    ensures { OnOk result (Appends (W.contents to.old) (W.contents to.new) (level_bytes levels.now)) }
+    ensures ok { OnOk result (Appends (W.contents to.old) (W.contents to.new) (level_bytes levels.now)) }
+    ensures front { AppendsFront (W.contents to.old) (W.contents to.new) (level_bytes levels.now) }
 {
     let end = levels.len() * 2;
     pack(levels, &mut bytes[0..end]);
-    to.write_all(&bytes[0..end])
+    streams::write_whole(to, &bytes[0..end])
 }
 
 // The bytes of places.

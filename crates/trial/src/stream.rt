@@ -2,8 +2,12 @@
 //
 // A state is a list of 326 bytes: scheme 210, unfinished block 64 (eight words of 8), count 8, mode 1, frame length 8, OFDM symbols seen 8, scrambler's
 // register 2, mended 8, worst 8, and the number (1) and the place (8) of the refusal that it holds, both 0 in a state that is open.
-ghost use Rattle.std.specs.Prelude.{◌≡◌, ◌≤◌, length};
+ghost use Rattle.std.specs.Prelude.{◌≡◌, ◌≤◌, length, OnOk};
+ghost use Rattle.std.specs.Io.KnownBytes.{Appends};
+ghost use Rattle.streams.specs.Streams.{LeavesRest, AppendsFront, Grows};
+ghost use Rattle.answers.specs.Answers.{of_received_b};
 ghost use Rattle.trial.specs.Courses.{Says};
+ghost use Rattle.trial.specs.Format.{received_bytes, word_bytes};
 
 use crate::stop::Stop;
 use crate::{input, output};
@@ -38,7 +42,10 @@ pub(crate) fn serve_stream<R: Read, W: Write>(
     i: &mut [i16],
     q: &mut [i16],
     area: &mut [u8],
-) -> Result<(), Stop> {
+) -> Result<(), Stop>
+    ensures rest { LeavesRest (R.remaining from.old) (R.remaining from.new) }
+    ensures grows { Grows (W.contents to.old) (W.contents to.new) }
+{
     let mode = input::read_byte(from)?;
     let size = input::read_size(from)?;
     let s = input::read_list(from, scheme)?;
@@ -64,7 +71,10 @@ pub(crate) fn serve_step<R: Read, W: Write>(
     i: &mut [i16],
     q: &mut [i16],
     area: &mut [u8],
-) -> Result<(), Stop> {
+) -> Result<(), Stop>
+    ensures rest { LeavesRest (R.remaining from.old) (R.remaining from.new) }
+    ensures grows { Grows (W.contents to.old) (W.contents to.new) }
+{
     let mut bytes = [0u8; STATE];
     if input::read_list(from, &mut bytes)? < STATE {
         return Err(Stop::End);
@@ -86,7 +96,10 @@ fn open<R: Read, W: Write>(
     i: &mut [i16],
     q: &mut [i16],
     area: &mut [u8],
-) -> Result<(), Stop> {
+) -> Result<(), Stop>
+    ensures rest { LeavesRest (R.remaining from.old) (R.remaining from.new) }
+    ensures grows { Grows (W.contents to.old) (W.contents to.new) }
+{
     let opened = receiver_b::open_b(mode, size, scheme);
     let course = opened.course;
     output::write_answer(to, stream::told(course))?;
@@ -102,7 +115,10 @@ fn call_all<R: Read, W: Write>(
     i: &mut [i16],
     q: &mut [i16],
     area: &mut [u8],
-) -> Result<(), Stop> {
+) -> Result<(), Stop>
+    ensures rest { LeavesRest (R.remaining from.old) (R.remaining from.new) }
+    ensures grows { Grows (W.contents to.old) (W.contents to.new) }
+{
     let mut state = opened;
     for _ in 0..calls {
         call(from, to, &mut state, i, q, area)?;
@@ -118,7 +134,10 @@ fn call<R: Read, W: Write>(
     i: &mut [i16],
     q: &mut [i16],
     area: &mut [u8],
-) -> Result<(), Stop> {
+) -> Result<(), Stop>
+    ensures rest { LeavesRest (R.remaining from.old) (R.remaining from.new) }
+    ensures grows { Grows (W.contents to.old) (W.contents to.new) }
+{
     let (m, l) = input::read_points(from, i, q)?;
     answer(to, state, &i[0..m], &q[0..l], area)?;
     Ok(())
@@ -131,7 +150,9 @@ fn answer<W: Write>(
     i: &[i16],
     q: &[i16],
     area: &mut [u8],
-) -> io::Result<()> {
+) -> io::Result<()>
+    ensures grows { Grows (W.contents to.old) (W.contents to.new) }
+{
     let stepped = receiver_b::step_b(*state, i, q, area);
     let received = stepped.answer;
     *state = stepped.state;
@@ -142,6 +163,7 @@ fn answer<W: Write>(
 // The step of job 16, and its response. Where number and place are those of no refusal, it is answered as a state that no stream has.
 fn step<W: Write>(to: &mut W, bytes: &[u8], i: &[i16], q: &[i16], area: &mut [u8]) -> io::Result<()>
     requires { length bytes.now ≡ 326 }
+    ensures grows { Grows (W.contents to.old) (W.contents to.new) }
 {
     let said = course_of(bytes[317], number_at(318, bytes));
     match said {
@@ -161,7 +183,10 @@ fn step<W: Write>(to: &mut W, bytes: &[u8], i: &[i16], q: &[i16], area: &mut [u8
 }
 
 // How every response to a step begins.
-fn write_received<W: Write>(to: &mut W, answer: ReceivedB) -> io::Result<()> {
+fn write_received<W: Write>(to: &mut W, answer: ReceivedB) -> io::Result<()>
+    ensures ok { OnOk result (Appends (W.contents to.old) (W.contents to.new) (received_bytes (of_received_b answer))) }
+    ensures front { AppendsFront (W.contents to.old) (W.contents to.new) (received_bytes (of_received_b answer)) }
+{
     let told = answers::of_received_b(answer);
     output::write_answer(to, told)?;
     output::write_count(to, told.mended)?;
@@ -242,7 +267,9 @@ fn number_at(at: usize, bytes: &[u8]) -> usize
 }
 
 // A state, whole.
-fn write_state<W: Write>(to: &mut W, s: State) -> io::Result<()> {
+fn write_state<W: Write>(to: &mut W, s: State) -> io::Result<()>
+    ensures grows { Grows (W.contents to.old) (W.contents to.new) }
+{
     let scheme = s.scheme;
     let block = s.block;
     let course = s.course;
@@ -260,7 +287,10 @@ fn write_state<W: Write>(to: &mut W, s: State) -> io::Result<()> {
 }
 
 // The words of a block, in eight bytes each.
-fn write_block<W: Write>(to: &mut W, block: &[u64; WORDS]) -> io::Result<()> {
+fn write_block<W: Write>(to: &mut W, block: &[u64; WORDS]) -> io::Result<()>
+    ensures ok { OnOk result (Appends (W.contents to.old) (W.contents to.new) (word_bytes block.now)) }
+    ensures front { AppendsFront (W.contents to.old) (W.contents to.new) (word_bytes block.now) }
+{
     for word in block {
         output::write_count(to, *word as usize)?;
     }

@@ -1,5 +1,5 @@
--- Count and levels leave the rest.
-use Rattle.trial.proofs.Streams.{rest_trans}
+-- `trial::input::read_levels` meets its contract: count and levels leave the rest.
+use Rattle.streams.proofs.Reading.{rest_trans}
 use Rattle.trial.proofs.input.read_levels.Goals as goal
 
 pub returns-in_err-read_parts-clause-rest : goal.returns-in_err-read_parts-clause-rest

@@ -1,5 +1,5 @@
--- Count and bytes leave the rest.
-use Rattle.trial.proofs.Streams.{rest_trans}
+-- `trial::input::read_list` meets its contract: count and bytes leave the rest.
+use Rattle.streams.proofs.Reading.{rest_trans}
 use Rattle.trial.proofs.input.read_list.Goals as goal
 
 pub returns-in_err-fill-clause-rest : goal.returns-in_err-fill-clause-rest

@@ -1,6 +1,6 @@
--- One part more leaves the rest.
+-- `trial::input::read_parts` meets its contract: one part more leaves the rest.
 use Rattle.std.proofs.Common.{rules}
-use Rattle.trial.proofs.Streams.{rest_trans}
+use Rattle.streams.proofs.Reading.{rest_trans}
 use Rattle.trial.proofs.input.read_parts.Goals as goal
 
 pub returns-in_err-read_part : goal.returns-in_err-read_part

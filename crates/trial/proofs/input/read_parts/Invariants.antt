@@ -1,6 +1,6 @@
--- The parts are read from the front, and each turn reads one more; what is left of the input is its rest.
+-- `trial::input::read_parts` meets its contract: the parts are read from the front, and each turn reads one more; what is left of the input is its rest.
 use Rattle.std.proofs.Common.{length, ◌-◌, ◌≤◌}
-use Rattle.trial.specs.Streams.{LeavesRest}
+use Rattle.streams.specs.Streams.{LeavesRest}
 use Rattle.trial.proofs.input.read_parts.Given as goal
 
 abbrev pub invariant-loop-i : goal.invariant-loop-i

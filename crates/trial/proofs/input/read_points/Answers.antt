@@ -1,5 +1,5 @@
--- I and Q leave the rest.
-use Rattle.trial.proofs.Streams.{rest_trans}
+-- `trial::input::read_points` meets its contract: I and Q leave the rest.
+use Rattle.streams.proofs.Reading.{rest_trans}
 use Rattle.trial.proofs.input.read_points.Goals as goal
 
 pub returns-in_err-of_q-clause-rest : goal.returns-in_err-of_q-clause-rest

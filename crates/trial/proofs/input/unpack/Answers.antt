@@ -1,4 +1,4 @@
--- A level more: that of the two bytes from i * 2 on.
+-- `trial::input::unpack` meets its contract: a level more: that of the two bytes from i * 2 on.
 use Rattle.std.proofs.Common.{◌≡◌, ℕ, suc, ◌+◌, ◌-◌, ◌*◌, ◌≤◌, ◌<◌, List, ◌++◌, ℤ, to_z, of_z, sym, ◌∙◌, append-nil, append_assoc, add-one, arith, length, set, take, drop}
 use lib.Seq.{take_all, take-suc-set, drop-drop}
 use mir.Syntax.{w16}

@@ -1,4 +1,4 @@
--- The levels read, and then those of the bytes that are left.
+-- `trial::input::unpack` meets its contract: the levels read, and then those of the bytes that are left.
 use Rattle.std.proofs.Common.{◌≡◌, ◌-◌, ◌*◌, ◌≤◌, ◌++◌, length, take, drop}
 use Rattle.trial.specs.Format.{levels_in}
 use Rattle.trial.proofs.input.unpack.Given as goal

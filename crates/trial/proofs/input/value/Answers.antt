@@ -1,4 +1,4 @@
--- A byte more: it is the lowest, and eight bytes stay below 2 ^ 64.
+-- `trial::input::value` meets its contract: a byte more: it is the lowest, and eight bytes stay below 2 ^ 64.
 use Rattle.std.proofs.Common.{◌≡◌, ℕ, suc, ◌+◌, ◌-◌, ◌*◌, ◌^◌, ◌≤◌, ◌<◌, List, ◌∷◌, ap, ◌∙◌, arith, length, get_or, drop, drop-cons}
 use native.Mathlib.Nat.{pow-suc, pow-le-pow_right, sub_self}
 use lib.Dec.{lit<}

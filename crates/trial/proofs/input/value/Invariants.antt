@@ -1,4 +1,4 @@
--- n is the number that the bytes from i on stand for.
+-- `trial::input::value` meets its contract: n is the number that the bytes from i on stand for.
 use Rattle.std.proofs.Common.{◌≡◌, ◌-◌, ◌^◌, ◌≤◌, ◌<◌, length, drop}
 use Rattle.trial.specs.Format.{value}
 use Rattle.trial.proofs.input.value.Given as goal

@@ -1,4 +1,4 @@
--- A level more stands behind the bytes of those before it.
+-- `trial::output::pack` meets its contract: a level more follows the bytes of those before it.
 use Rattle.std.proofs.Common.{rules, ◌+◌, ◌-◌, ◌*◌, pos, of_z, refl, sym, ◌∙◌, arith, get_or}
 use Rattle.std.proofs.Math.ListN.{length-map, get_or-map}
 use mir.Syntax.{w16}

@@ -1,4 +1,4 @@
--- What is written so far are the bytes of the first i levels.
+-- `trial::output::pack` meets its contract: what is written so far are the bytes of the first i levels.
 use Rattle.std.proofs.Common.{◌≡◌, ◌-◌, ◌*◌, ◌≤◌, length, take}
 use Rattle.trial.specs.Format.{pairs}
 use Rattle.trial.proofs.Packing.{numbers}

@@ -1,4 +1,4 @@
--- A place more stands behind the bytes of those before it.
+-- `trial::output::pack_places` meets its contract: a place more follows the bytes of those before it.
 use Rattle.std.proofs.Common.{◌+◌, ◌-◌, ◌*◌, refl, arith}
 use Rattle.trial.specs.Format.{pairs}
 use Rattle.trial.proofs.Packing.{packed_more}

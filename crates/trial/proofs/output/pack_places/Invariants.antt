@@ -1,4 +1,4 @@
--- What is written so far are the bytes of the first i places.
+-- `trial::output::pack_places` meets its contract: what is written so far are the bytes of the first i places.
 use Rattle.std.proofs.Common.{◌≡◌, ◌-◌, ◌*◌, ◌≤◌, length, take}
 use Rattle.trial.specs.Format.{pairs}
 use Rattle.trial.proofs.output.pack_places.Given as goal

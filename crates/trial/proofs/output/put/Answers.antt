@@ -1,4 +1,4 @@
--- A byte more: the lowest of what is left.
+-- `trial::output::put` meets its contract: a byte more: the lowest of what is left.
 use Rattle.std.proofs.Common.{◌≡◌, ℕ, suc, ◌+◌, ◌-◌, ◌/◌, ◌%◌, ◌≤◌, ◌<◌, List, ◌++◌, sym, ◌∙◌, append-nil, append_assoc, add-one, arith, length, set, take}
 use lib.Seq.{take_all, take-suc-set}
 use Rattle.trial.specs.Format.{little_endian}

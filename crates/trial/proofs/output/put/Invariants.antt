@@ -1,4 +1,4 @@
--- The bytes written, and then those of what is left.
+-- `trial::output::put` meets its contract: the bytes written, and then those of what is left.
 use Rattle.std.proofs.Common.{◌≡◌, ◌-◌, ◌≤◌, ◌++◌, length, take}
 use Rattle.trial.specs.Format.{little_endian}
 use Rattle.trial.proofs.output.put.Given as goal

@@ -1,4 +1,4 @@
--- The parts are written from the front, and each turn writes one more.
+-- `trial::output::write_parts` meets its contract: the parts are written from the front, and each turn writes one more.
 use Rattle.std.proofs.Common.{length, take, ◌-◌, ◌≤◌}
 use Rattle.std.specs.Io.KnownBytes.{Appends}
 use Rattle.trial.specs.Format.{level_bytes}

@@ -1,4 +1,4 @@
--- w counts up to the words of a block.
+-- `trial::stream::block_of` meets its contract: w counts up to the words of a block.
 use Rattle.std.proofs.Common.{◌-◌, ◌≤◌}
 use Rattle.trial.proofs.stream.block_of.Given as goal
 

@@ -1,4 +1,4 @@
--- s counts up to the entries of a scheme.
+-- `trial::stream::scheme_of` meets its contract: s counts up to the entries of a scheme.
 use Rattle.std.proofs.Common.{◌-◌, ◌≤◌}
 use Rattle.trial.proofs.stream.scheme_of.Given as goal
 

@@ -1,0 +1,6 @@
+-- `points_table::write_labels` meets its contract: what was held stays.
+use Rattle.streams.specs.Streams.{Grows}
+use Rattle.points_table.proofs.write_labels.Given as goal
+
+abbrev pub invariant-loop-x : goal.invariant-loop-x
+invariant-loop-x g l = Grows (g.W.Write.contents l.initial.to) (g.W.Write.contents l.to)

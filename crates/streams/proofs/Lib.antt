@@ -1,0 +1,3 @@
+-- The laws of the crate.
+pub mod Reading
+pub mod Writing
