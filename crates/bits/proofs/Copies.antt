@@ -1,13 +1,15 @@
 -- A list after a part of it was written; and lists of bits: one after a bit was written, and zeros.
 -- Assumes nothing.
 use mathlib.Core.Path.{◌≡◌, sym, ap, ap₂, ◌∙◌}
-use mathlib.Core.List.{List, [], ◌∷◌, ◌++◌, append_assoc}
+use mathlib.Core.List.{List, [], ◌∷◌, ◌++◌, append-nil, append_assoc}
 use Prim.Native.Nat.{ℕ, zero, suc, ◌+◌, ◌≤◌, ◌<◌}
+use native.Mathlib.Nat.{le_refl}
 use native.Mathlib.Omega.{arith}
 use borrow.Rule.Slice.PartMut.{put_mid, post_of}
-use lib.ListN.{length, take, drop, set, replicate, length-append, length-drop}
-use lib.Seq.{take_at, drop-drop, length-take-le}
+use lib.ListN.{length, take, drop, set, replicate, length-append, length-drop, drop_of_length-le}
+use lib.Seq.{take_at, take-length, drop-drop, length-take-le}
 use Rattle.bits.specs.Words.{Bits}
+use Rattle.bits.proofs.Parts.{copied}
 
 module _ (a k : ℕ) (xs : List ℕ) (fits : a + k ≤ length xs) where
   -- the part is as long as it should be
@@ -19,6 +21,14 @@ module _ (a k : ℕ) (xs : List ℕ) (fits : a + k ≤ length xs) where
   part_written ys e =
       ap (take (a + k)) (sym (append_assoc (take a xs) ys (post_of a k xs)))
       ∙ take_at (take a xs ++ ys) (post_of a k xs) (a + k) (length-append (take a xs) ys ∙ ap₂ ◌+◌ (length-take-le a xs (omega arith)) e)
+
+-- the front of one list and the rest of another: where they are as long as one another
+copied_all : (bits part : List ℕ) → length part ≡ length bits → take (length bits) bits ++ drop (length bits) part ≡ bits
+copied_all bits part e = ap₂ ◌++◌ (take-length bits) (drop_of_length-le part {i = length bits} (rw e (le_refl (length bits)))) ∙ append-nil bits
+
+-- and where the other is longer
+pub front_copied : (m out after : List ℕ) (n : ℕ) → length m ≡ n → after ≡ take (length m) m ++ drop (length m) out → take n after ≡ m
+front_copied m out after n long e = ap (take n) (e ∙ copied m out n long) ∙ take_at m (drop n out) n long
 
 module _ (out bits : List ℕ) (at : ℕ) (fits : at + length bits ≤ length out) where
   -- bits put into a list, from `at` on

@@ -6,7 +6,11 @@ use Prim.Native.Nat.{ℕ, ◌+◌, ◌-◌, ◌≤◌}
 use native.Mathlib.Omega.{arith}
 use borrow.Rule.Slice.PartMut.{put_mid}
 use lib.ListN.{length, take, drop, length-drop}
-use lib.Seq.{take_at, drop_at, drop-drop, length-take-le}
+use lib.Seq.{take-length, take_at, drop_at, drop-drop, length-take-le}
+
+-- the front of one list and the rest of another
+pub copied : (v out : List ℕ) (n : ℕ) → length v ≡ n → take (length v) v ++ drop (length v) out ≡ v ++ drop n out
+copied v out n e = ap₂ (λ (l : List ℕ) (i : ℕ). l ++ drop i out) (take-length v) e
 
 module _ (out v : List ℕ) (k n : ℕ) (e : length v ≡ k) (low : k ≤ n) where
   -- the second part is as long as it should be

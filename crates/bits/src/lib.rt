@@ -88,7 +88,7 @@ pub fn put_bytes(bits: &[u8], out: &mut [u8])
     write_bytes(bits, out);
 }
 
-// A list put at the front of another, where there is room for it. A loop of its own: its code asks the C library for nothing.
+// A list put at the front of another, where there is room for it. A loop of its own, so that the archive asks for no memmove.
 pub fn put_front(from: &[u8], to: &mut [u8])
     ensures there { length from.now ≤ length to.old → to.new ≡ from.now ++ drop (length from.now) to.old }
     ensures no_room { length to.old < length from.now → to.new ≡ to.old }

@@ -5,7 +5,7 @@ use mathlib.Core.List.{List, [], ◌∷◌, ◌++◌}
 use Prim.Native.Nat.{ℕ, suc, ◌-◌, ◌≤◌, ◌<◌}
 use native.Mathlib.Omega.{arith}
 use lib.ListN.{length, take, drop, get_or, set, length-append, length-drop, length-set, get_or-append}
-use lib.Seq.{take-suc, set-append_left}
+use lib.Seq.{take-suc, drop-append_seam, set-append_left}
 use Rattle.bits.specs.Words.{Bits}
 use Rattle.bits.specs.Places.{flipped_at}
 use Rattle.bits.proofs.Digits.{bits_at}
@@ -44,6 +44,20 @@ module _ (list word old : List ℕ) where
   pub front_copied : {out : List ℕ} → length word ≤ length old → out ≡ word ++ drop (length word) old → Front list word old 0 out
   unfolding flipped_at
   front_copied room e = record { long = ap length e ∙ length-append word (drop (length word) old) ∙ omega (arith, length-drop (length word) old); is = e }
+
+  -- what follows it is as before
+  behind : {out : List ℕ} → Front list word old 0 out → drop (length word) out ≡ drop (length word) old
+  unfolding flipped_at
+  behind front = ap (drop (length word)) front.is ∙ drop-append_seam word (drop (length word) old)
+
+  pub front_again : {out : List ℕ} → Front list word old 0 out → Front list word out 0 out
+  front_again {out} front = record { long = refl; is = front.is ∙ ap (λ (l : List ℕ). flipped_at (take 0 list) word ++ l) (sym (behind front)) }
+
+  pub front_onto : {first out : List ℕ} {j : ℕ} → Front list word old 0 first → Front list word first j out → Front list word old j out
+  front_onto {first} {out} {j} a b = record {
+    long = b.long ∙ a.long;
+    is = b.is ∙ ap (λ (l : List ℕ). flipped_at (take j list) word ++ l) (behind a);
+  }
 
 module _ (list word old out : List ℕ) (j : ℕ) (low : j < length list) (inside : get_or list j 0 < length word) (front : Front list word old j out) where
   -- there is a bit

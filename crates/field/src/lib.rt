@@ -1,7 +1,7 @@
 // GF(512), modulo x^9 + x^4 + 1: sum, product, inverse and powers of a. An element is a number below 512, whose binary digits are the
 // coefficients; a is 2. Every number may come in: it stands for its nine low digits.
-// A product is read from two tables, of logarithms and of powers. A constant that is indexed in a loop is copied at each turn, so a loop
-// takes the tables once, by `log_table` and `power_table`, and lends them to `product_from`.
+// A product is read from two tables, of logarithms and of powers. A loop can take them once, by `log_table` and `power_table`, and lend
+// them to `product_from`.
 #![tactic(auto)]
 
 ghost use Rattle.std.specs.Prelude.{◌≡◌, ◌<◌, ◌≤◌, ◌+◌, ◌%◌, min, get_or};

@@ -1,5 +1,5 @@
 // The nine constellations of Annex B, for 2 to 10 bits per point: from label to point, and from point to label.
-// Both are table reads. The forms that end in `_in` are lent the tables, so that a loop copies none.
+// Both are table reads. The forms that end in `_in` are lent the tables.
 ghost use Rattle.std.specs.Prelude.{◌≡◌, ◌≤◌};
 ghost use Rattle.points.specs.Constellations.{point_of, label_of};
 ghost use Rattle.points.specs.Lent.{point_in, guess_in, label_in, read_in, our_cells, our_quadrants};

@@ -1,3 +1,4 @@
 -- The laws of the crate.
 pub mod Packing
+pub mod Naming
 pub mod Streaming
