@@ -22,7 +22,7 @@ use Rattle.answers.specs.declared.ReceivedB.TheVariants.{Accepted, Refused}
 use Rattle.answers.proofs.Telling.{never_accepted, by_test, not_refused}
 use Rattle.bits.specs.Bytes.{Bytes}
 use Rattle.points.specs.declared.Point.{Point}
-use Rattle.points.specs.Constellations.{tables, points, level_i, level_q}
+use Rattle.points.specs.Constellations.{points, level_i, level_q}
 use Rattle.symbols.specs.Grid.{sub_carriers, symbol_points}
 use Rattle.symbols.specs.Grids.{placed, received, first_occupied, room}
 use Rattle.symbols.specs.Schemes.{repeated, labelled, stray_in}
@@ -51,7 +51,7 @@ use Rattle.decisions.specs.Deciding.{room_checked, Decides, DecidingB}
 use Rattle.decisions.specs.Moves.{AllMoved, fine}
 use Rattle.decisions.proofs.Tables.{length-decided}
 use Rattle.decisions.proofs.Moves.{fine_moved}
-use Rattle.decisions.proofs.PointsB.{points_decided, stray_decided, kept_mapped, filled, points_are, sent_are, points_bits, size, sent_points}
+use Rattle.decisions.proofs.PointsB.{points_decided, stray_decided, kept_mapped, filled, points_are, sent_are, points_bits, sent_points}
 
 -- ---- neither 7 nor 8
 

@@ -7,7 +7,7 @@ use native.Mathlib.Nat.{zero-add, le-mul_of_pos_right}
 use native.Mathlib.Omega.{arith}
 use lib.Arith.{digits_lt, digits_mod}
 use lib.Bits.{bit_xor, xor_lt}
-use lib.ListN.{length, get_or, take, length-take, get_or-eq_default}
+use lib.ListN.{get_or, take, length-take, get_or-eq_default}
 use lib.Pow.{pow_pos}
 use lib.Seq.{get_or-take}
 use Rattle.bits.specs.Remainders.{remainder}

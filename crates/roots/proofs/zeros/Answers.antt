@@ -1,6 +1,5 @@
 -- `roots::zeros` meets its contract: Horner's rule from the highest three coefficients down to the lowest.
 -- Assumes nothing.
-use mathlib.Core.Logic.{⊎_elim}
 use Prim.Native.Nat.{◌/◌}
 use native.Mathlib.Omega.{arith}
 use Rattle.roots.specs.Searches.{Reached}
