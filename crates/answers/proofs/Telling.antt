@@ -5,21 +5,14 @@ use mathlib.Core.Bool.{Bool, true, false, cond}
 use Prim.Native.Nat.{ℕ, ◌<◌}
 use native.Mathlib.Omega.{arith}
 use lib.Dec.{eqb}
-use Rattle.answers.specs.Answers.{accepted, refused, because, of_written, of_decoded, of_received_a, of_received_b, refusal_at, ToldWord, of_word, ToldBurst, of_burst}
+use Rattle.answers.specs.Answers.{accepted, refused, because, of_written, of_decoded, of_received_a, of_received_b, refusal_at, ToldWord, of_word, ToldBurst, of_burst, Decoded, ReceivedA, ReceivedB, Written, counted_a, counted_b}
 use Rattle.answers.specs.Checks.{Checked}
 use Rattle.answers.specs.declared.Refusal.{Refusal}
 use Rattle.answers.specs.declared.Refusal.TheVariants.{Unknown, WrongLength, NoRoom, NotABit, BadScheme, TooManySymbols, Occupied, StrayPoint, Uncorrectable, WrongCheck, Noise, Forged}
 use Rattle.answers.specs.declared.Told.{Told}
-use Rattle.answers.specs.declared.Written.{Written}
-use Rattle.answers.specs.declared.Written.TheVariants as written
-use Rattle.answers.specs.declared.Decoded.{Decoded}
-use Rattle.answers.specs.declared.Decoded.TheVariants as decoded
-use Rattle.answers.specs.declared.ReceivedA.{ReceivedA}
-use Rattle.answers.specs.declared.ReceivedA.TheVariants as received_a
-use Rattle.answers.specs.declared.ReceivedB.{ReceivedB}
-use Rattle.answers.specs.declared.ReceivedB.TheVariants as received_b
 use Rattle.answers.specs.declared.DecodedWord.{DecodedWord}
 use Rattle.answers.specs.declared.ReceivedBurst.{ReceivedBurst}
+use Rattle.std.specs.Prelude.{Ok, Err}
 
 -- a refusal, out of its number and place
 pub refusal_at_lem : (r : Refusal) → refusal_at (because r).number (because r).place ≡ r
@@ -86,23 +79,23 @@ because_is Forged = refl
 -- ---- each kind of answer, out of what it tells
 
 written_of : Told → Written
-written_of t = cond (eqb t.number 0) written.Accepted (written.Refused (refusal_of t))
+written_of t = cond (eqb t.number 0) (Ok tt) (Err (refusal_of t))
 
 written_of_lem : (a : Written) → written_of (of_written a) ≡ a
 unfolding written_of
-written_of_lem written.Accepted = refl
-written_of_lem (written.Refused r) = rw (numbered r, refusal_of_lem r)
+written_of_lem (Ok counts) = refl
+written_of_lem (Err r) = rw (numbered r, refusal_of_lem r)
 
 pub written_same : (a b : Written) → of_written a ≡ of_written b → a ≡ b
 written_same a b e = sym (written_of_lem a) ∙ ap written_of e ∙ written_of_lem b
 
 decoded_of : Told → Decoded
-decoded_of t = cond (eqb t.number 0) (decoded.Accepted t.mended) (decoded.Refused (refusal_of t))
+decoded_of t = cond (eqb t.number 0) (Ok t.mended) (Err (refusal_of t))
 
 decoded_of_lem : (a : Decoded) → decoded_of (of_decoded a) ≡ a
 unfolding decoded_of
-decoded_of_lem (decoded.Accepted m) = refl
-decoded_of_lem (decoded.Refused r) = rw (numbered r, refusal_of_lem r)
+decoded_of_lem (Ok m) = refl
+decoded_of_lem (Err r) = rw (numbered r, refusal_of_lem r)
 
 decoded_same : (a b : Decoded) → of_decoded a ≡ of_decoded b → a ≡ b
 decoded_same a b e = sym (decoded_of_lem a) ∙ ap decoded_of e ∙ decoded_of_lem b
@@ -117,12 +110,12 @@ word_same a b e =
     (decoded_same a.answer b.answer (word_told a e)) e
 
 received_a_of : Told → ReceivedA
-received_a_of t = cond (eqb t.number 0) (received_a.Accepted t.mended t.protected t.worst) (received_a.Refused (refusal_of t))
+received_a_of t = cond (eqb t.number 0) (counted_a t.mended t.protected t.worst) (Err (refusal_of t))
 
 received_a_of_lem : (a : ReceivedA) → received_a_of (of_received_a a) ≡ a
 unfolding received_a_of
-received_a_of_lem (received_a.Accepted m p w) = refl
-received_a_of_lem (received_a.Refused r) = rw (numbered r, refusal_of_lem r)
+received_a_of_lem (Ok m) = refl
+received_a_of_lem (Err r) = rw (numbered r, refusal_of_lem r)
 
 received_a_same : (a b : ReceivedA) → of_received_a a ≡ of_received_a b → a ≡ b
 received_a_same a b e = sym (received_a_of_lem a) ∙ ap received_a_of e ∙ received_a_of_lem b
@@ -136,12 +129,12 @@ burst_same a b e =
     (received_a_same a.answer b.answer (burst_told a e)) e
 
 received_b_of : Told → ReceivedB
-received_b_of t = cond (eqb t.number 0) (received_b.Accepted t.mended t.worst) (received_b.Refused (refusal_of t))
+received_b_of t = cond (eqb t.number 0) (counted_b t.mended t.worst) (Err (refusal_of t))
 
 received_b_of_lem : (a : ReceivedB) → received_b_of (of_received_b a) ≡ a
 unfolding received_b_of
-received_b_of_lem (received_b.Accepted m w) = refl
-received_b_of_lem (received_b.Refused r) = rw (numbered r, refusal_of_lem r)
+received_b_of_lem (Ok m) = refl
+received_b_of_lem (Err r) = rw (numbered r, refusal_of_lem r)
 
 pub received_b_same : (a b : ReceivedB) → of_received_b a ≡ of_received_b b → a ≡ b
 received_b_same a b e = sym (received_b_of_lem a) ∙ ap received_b_of e ∙ received_b_of_lem b
@@ -149,16 +142,16 @@ received_b_same a b e = sym (received_b_of_lem a) ∙ ap received_b_of e ∙ rec
 -- ---- number 0 says that it is accepted, with its own counts
 
 pub accepted_written : (a : Written) → (of_written a).number ≡ 0 → of_written a ≡ accepted 0 0 0
-accepted_written written.Accepted e = refl
-accepted_written (written.Refused r) e = absurd (numbered_not r e)
+accepted_written (Ok tt) e = refl
+accepted_written (Err r) e = absurd (numbered_not r e)
 
 pub accepted_a : (a : ReceivedA) → (of_received_a a).number ≡ 0 → of_received_a a ≡ accepted (of_received_a a).mended (of_received_a a).protected (of_received_a a).worst
-accepted_a (received_a.Accepted m p w) e = refl
-accepted_a (received_a.Refused r) e = absurd (numbered_not r e)
+accepted_a (Ok m) e = refl
+accepted_a (Err r) e = absurd (numbered_not r e)
 
 pub accepted_b : (a : ReceivedB) → (of_received_b a).number ≡ 0 → of_received_b a ≡ accepted (of_received_b a).mended 0 (of_received_b a).worst
-accepted_b (received_b.Accepted m w) e = refl
-accepted_b (received_b.Refused r) e = absurd (numbered_not r e)
+accepted_b (Ok m) e = refl
+accepted_b (Err r) e = absurd (numbered_not r e)
 
 -- ---- checks
 

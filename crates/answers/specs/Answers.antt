@@ -2,18 +2,12 @@
 -- that no opening and no steps give, is ours). In a refusal all counts are 0, and so is a count that the job does not have.
 -- Of a word and of a burst also the places mended (document 02, item 10). In a refusal there are none.
 -- Assumes nothing.
-use Rattle.std.specs.Prelude.{cond, List, [], ◌++◌, ℕ, ◌-◌, eqb, length, replicate}
+use Rattle.std.specs.Prelude.{cond, List, [], ◌++◌, ℕ, ◌-◌, eqb, length, replicate, Result, Ok, Err}
 use Rattle.answers.specs.declared.Refusal.{Refusal}
 use Rattle.answers.specs.declared.Refusal.TheVariants.{Unknown, WrongLength, NoRoom, NotABit, BadScheme, TooManySymbols, Occupied, StrayPoint, Uncorrectable, WrongCheck, Noise, Forged}
 use Rattle.answers.specs.declared.Told.{Told}
-use Rattle.answers.specs.declared.Written.{Written}
-use Rattle.answers.specs.declared.Written.TheVariants as written
-use Rattle.answers.specs.declared.Decoded.{Decoded}
-use Rattle.answers.specs.declared.Decoded.TheVariants as decoded
-use Rattle.answers.specs.declared.ReceivedA.{ReceivedA}
-use Rattle.answers.specs.declared.ReceivedA.TheVariants as received_a
-use Rattle.answers.specs.declared.ReceivedB.{ReceivedB}
-use Rattle.answers.specs.declared.ReceivedB.TheVariants as received_b
+use Rattle.answers.specs.declared.MendedA.{MendedA}
+use Rattle.answers.specs.declared.MendedB.{MendedB}
 use Rattle.answers.specs.declared.DecodedWord.{DecodedWord}
 use Rattle.answers.specs.declared.ReceivedBurst.{ReceivedBurst}
 
@@ -46,25 +40,50 @@ refusal_at number place =
     (cond (eqb number 5) (BadScheme place) (cond (eqb number 6) TooManySymbols (cond (eqb number 7) (Occupied place) (cond (eqb number 8) (StrayPoint place)
     (cond (eqb number 9) (Uncorrectable place) (cond (eqb number 10) WrongCheck (cond (eqb number 11) Noise Forged))))))))))
 
+-- ---- the answers of the jobs: counts, or a refusal
+
+-- of encode, send A and send B
+abbrev pub Written : Type 0
+Written = Result Unit Refusal
+
+-- of decode: the bits mended
+abbrev pub Decoded : Type 0
+Decoded = Result ℕ Refusal
+
+-- of receive A
+abbrev pub ReceivedA : Type 0
+ReceivedA = Result MendedA Refusal
+
+-- of receive B
+abbrev pub ReceivedB : Type 0
+ReceivedB = Result MendedB Refusal
+
+-- receive A and receive B, with these counts
+abbrev pub counted_a : ℕ → ℕ → ℕ → ReceivedA
+counted_a mended protected worst = Ok (record { mended = mended; protected = protected; worst = worst })
+
+abbrev pub counted_b : ℕ → ℕ → ReceivedB
+counted_b mended worst = Ok (record { mended = mended; worst = worst })
+
 -- what encode, send A and send B tell
 abbrev pub of_written : Written → Told
-of_written written.Accepted = accepted 0 0 0
-of_written (written.Refused why) = because why
+of_written (Ok counts) = accepted 0 0 0
+of_written (Err why) = because why
 
 -- what decode tells
 abbrev pub of_decoded : Decoded → Told
-of_decoded (decoded.Accepted mended) = accepted mended 0 0
-of_decoded (decoded.Refused why) = because why
+of_decoded (Ok mended) = accepted mended 0 0
+of_decoded (Err why) = because why
 
 -- what receive A tells
 abbrev pub of_received_a : ReceivedA → Told
-of_received_a (received_a.Accepted mended protected worst) = accepted mended protected worst
-of_received_a (received_a.Refused why) = because why
+of_received_a (Ok counts) = accepted counts.mended counts.protected counts.worst
+of_received_a (Err why) = because why
 
 -- what receive B tells
 abbrev pub of_received_b : ReceivedB → Told
-of_received_b (received_b.Accepted mended worst) = accepted mended 0 worst
-of_received_b (received_b.Refused why) = because why
+of_received_b (Ok counts) = accepted counts.mended 0 counts.worst
+of_received_b (Err why) = because why
 
 -- ---- the places mended
 
@@ -109,7 +128,7 @@ refused_burst number place = record { told = refused number place; first = liste
 
 -- the answers of a refusal
 abbrev pub no_word : Refusal → DecodedWord
-no_word why = record { answer = decoded.Refused why; places = listed [] }
+no_word why = record { answer = Err why; places = listed [] }
 
 abbrev pub no_burst : Refusal → ReceivedBurst
-no_burst why = record { answer = received_a.Refused why; first = listed []; second = listed [] }
+no_burst why = record { answer = Err why; first = listed []; second = listed [] }

@@ -6,7 +6,7 @@ ghost use Rattle.std.specs.Prelude.{◌≡◌};
 ghost use Rattle.answers.specs.Answers.{accepted, refused, because, of_written, of_decoded, of_received_a, of_received_b, refusal_at, no_word, no_burst};
 
 // Why a word, a frame, a grid or a state is refused, in the order of the numbers: document 01's, document 02's behind them, and 16, which is ours.
-#[derive(Clone, Copy)]
+#[derive(Clone, Copy, Debug, PartialEq, Eq)]
 pub enum Refusal {
     Unknown,
     WrongLength,
@@ -22,58 +22,42 @@ pub enum Refusal {
     Forged,
 }
 
-// What encode, send A and send B answer.
-#[derive(Clone, Copy)]
-pub enum Written {
-    Accepted,
-    Refused(Refusal),
+// What receive A counts: the bits mended, the protected bits that differ, and the bits mended in the worst block.
+#[derive(Clone, Copy, Debug, PartialEq, Eq)]
+pub struct MendedA {
+    pub mended: usize,
+    pub protected: usize,
+    pub worst: usize,
 }
 
-// What decode answers: the bits mended, or a refusal.
-#[derive(Clone, Copy)]
-pub enum Decoded {
-    Accepted(usize),
-    Refused(Refusal),
-}
-
-// What receive A answers: the bits mended, the protected bits that differ and the bits mended in the worst block, or a refusal.
-#[derive(Clone, Copy)]
-pub enum ReceivedA {
-    Accepted {
-        mended: usize,
-        protected: usize,
-        worst: usize,
-    },
-    Refused(Refusal),
-}
-
-// What receive B answers: the bits mended and those of the worst block, or a refusal.
-#[derive(Clone, Copy)]
-pub enum ReceivedB {
-    Accepted { mended: usize, worst: usize },
-    Refused(Refusal),
+// What receive B counts: the bits mended, and those of the worst block.
+#[derive(Clone, Copy, Debug, PartialEq, Eq)]
+pub struct MendedB {
+    pub mended: usize,
+    pub worst: usize,
 }
 
 // The entries of a list of places.
 pub const PLACES: usize = 16;
 
-// What decode answers of a word, and beside it the places that it mended, indices in the word: they rise, as many as were mended; the other entries are 0.
-#[derive(Clone, Copy)]
+// What decode answers of a word, the bits mended or a refusal, and with it the places that it mended, indices in the word: they rise, as many as were
+// mended; the other entries are 0.
+#[derive(Clone, Copy, Debug, PartialEq, Eq)]
 pub struct DecodedWord {
-    pub answer: Decoded,
+    pub answer: Result<usize, Refusal>,
     pub places: [u16; PLACES],
 }
 
-// What receive A answers of a burst, and beside it such a list for each half.
-#[derive(Clone, Copy)]
+// What receive A answers of a burst, and with it such a list for each half.
+#[derive(Clone, Copy, Debug, PartialEq, Eq)]
 pub struct ReceivedBurst {
-    pub answer: ReceivedA,
+    pub answer: Result<MendedA, Refusal>,
     pub first: [u16; PLACES],
     pub second: [u16; PLACES],
 }
 
 // What an answer tells. A count that the job does not have is 0.
-#[derive(Clone, Copy)]
+#[derive(Clone, Copy, Debug, PartialEq, Eq)]
 pub struct Told {
     pub number: u8,
     pub place: usize,
@@ -83,66 +67,72 @@ pub struct Told {
 }
 
 // What encode, send A or send B tells.
-pub fn of_written(answer: Written) -> Told
-    ensures { result ≡ of_written answer }
-{
-    match answer {
-        Written::Accepted => accepted(0, 0, 0),
-        Written::Refused(why) => of_refusal(why),
+impl From<Result<(), Refusal>> for Told {
+    ghost from_gives = { λ answer told. told ≡ of_written answer };
+
+    fn from(answer: Result<(), Refusal>) -> Told {
+        match answer {
+            Ok(()) => accepted(0, 0, 0),
+            Err(why) => Told::from(why),
+        }
     }
 }
 
 // What decode tells.
-pub fn of_decoded(answer: Decoded) -> Told
-    ensures { result ≡ of_decoded answer }
-{
-    match answer {
-        Decoded::Accepted(mended) => accepted(mended, 0, 0),
-        Decoded::Refused(why) => of_refusal(why),
+impl From<Result<usize, Refusal>> for Told {
+    ghost from_gives = { λ answer told. told ≡ of_decoded answer };
+
+    fn from(answer: Result<usize, Refusal>) -> Told {
+        match answer {
+            Ok(mended) => accepted(mended, 0, 0),
+            Err(why) => Told::from(why),
+        }
     }
 }
 
 // What receive A tells.
-pub fn of_received_a(answer: ReceivedA) -> Told
-    ensures { result ≡ of_received_a answer }
-{
-    match answer {
-        ReceivedA::Accepted {
-            mended,
-            protected,
-            worst,
-        } => accepted(mended, protected, worst),
-        ReceivedA::Refused(why) => of_refusal(why),
+impl From<Result<MendedA, Refusal>> for Told {
+    ghost from_gives = { λ answer told. told ≡ of_received_a answer };
+
+    fn from(answer: Result<MendedA, Refusal>) -> Told {
+        match answer {
+            Ok(counts) => accepted(counts.mended, counts.protected, counts.worst),
+            Err(why) => Told::from(why),
+        }
     }
 }
 
 // What receive B tells.
-pub fn of_received_b(answer: ReceivedB) -> Told
-    ensures { result ≡ of_received_b answer }
-{
-    match answer {
-        ReceivedB::Accepted { mended, worst } => accepted(mended, 0, worst),
-        ReceivedB::Refused(why) => of_refusal(why),
+impl From<Result<MendedB, Refusal>> for Told {
+    ghost from_gives = { λ answer told. told ≡ of_received_b answer };
+
+    fn from(answer: Result<MendedB, Refusal>) -> Told {
+        match answer {
+            Ok(counts) => accepted(counts.mended, 0, counts.worst),
+            Err(why) => Told::from(why),
+        }
     }
 }
 
 // What a refusal tells.
-pub fn of_refusal(why: Refusal) -> Told
-    ensures { result ≡ because why }
-{
-    match why {
-        Refusal::Unknown => refused(1, 0),
-        Refusal::WrongLength => refused(2, 0),
-        Refusal::NoRoom => refused(3, 0),
-        Refusal::NotABit(index) => refused(4, index),
-        Refusal::BadScheme(entry) => refused(5, entry),
-        Refusal::TooManySymbols => refused(6, 0),
-        Refusal::Occupied(index) => refused(7, index),
-        Refusal::StrayPoint(index) => refused(8, index),
-        Refusal::Uncorrectable(block) => refused(9, block),
-        Refusal::WrongCheck => refused(10, 0),
-        Refusal::Noise => refused(11, 0),
-        Refusal::Forged => refused(16, 0),
+impl From<Refusal> for Told {
+    ghost from_gives = { λ why told. told ≡ because why };
+
+    fn from(why: Refusal) -> Told {
+        match why {
+            Refusal::Unknown => refused(1, 0),
+            Refusal::WrongLength => refused(2, 0),
+            Refusal::NoRoom => refused(3, 0),
+            Refusal::NotABit(index) => refused(4, index),
+            Refusal::BadScheme(entry) => refused(5, entry),
+            Refusal::TooManySymbols => refused(6, 0),
+            Refusal::Occupied(index) => refused(7, index),
+            Refusal::StrayPoint(index) => refused(8, index),
+            Refusal::Uncorrectable(block) => refused(9, block),
+            Refusal::WrongCheck => refused(10, 0),
+            Refusal::Noise => refused(11, 0),
+            Refusal::Forged => refused(16, 0),
+        }
     }
 }
 
@@ -171,7 +161,7 @@ pub fn no_word(why: Refusal) -> DecodedWord
     ensures { result ≡ no_word why }
 {
     DecodedWord {
-        answer: Decoded::Refused(why),
+        answer: Err(why),
         places: [0; PLACES],
     }
 }
@@ -181,7 +171,7 @@ pub fn no_burst(why: Refusal) -> ReceivedBurst
     ensures { result ≡ no_burst why }
 {
     ReceivedBurst {
-        answer: ReceivedA::Refused(why),
+        answer: Err(why),
         first: [0; PLACES],
         second: [0; PLACES],
     }

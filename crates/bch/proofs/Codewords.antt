@@ -8,7 +8,7 @@ use native.Mathlib.Omega.{arith}
 use lib.ListN.{length, take, drop}
 use lib.Seq.{take_at}
 use Rattle.answers.specs.Checks.{passes}
-use Rattle.answers.specs.Answers.{accepted, refused, of_decoded}
+use Rattle.answers.specs.Answers.{accepted, refused, of_decoded, Decoded, Written}
 use Rattle.answers.specs.declared.Told.{Told}
 use Rattle.answers.proofs.Telling.{word_told, never_accepted}
 use Rattle.bch.proofs.Verdicts.{all_pass}
@@ -17,11 +17,9 @@ use Rattle.bch.proofs.Mendings.{only_codeword, encoding_codeword}
 use Rattle.bch.specs.Codes.{Code, known, named, encoded, Within}
 use Rattle.bch.specs.Promise.{Encodes, Encoding, Mended, Hopeless, Decodes, Decoding}
 use Rattle.bits.specs.Words.{Bits, differ}
-use Rattle.answers.specs.declared.Decoded.TheVariants.{Accepted, Refused}
-use Rattle.answers.specs.declared.Decoded.{Decoded}
 use Rattle.answers.specs.declared.DecodedWord.{DecodedWord}
-use Rattle.answers.specs.declared.Written.{Written}
 use Rattle.answers.specs.declared.Refusal.{Refusal}
+use Rattle.std.specs.Prelude.{Ok, Err}
 
 -- ---- what encode writes
 
@@ -36,19 +34,19 @@ encoded_front number {c} code word out answer after bits long room encoding =
 
 -- what holds where a codeword is within t and is written, and where there is none
 pub by_answer : (number : ℕ) {c : Code} → named number ≡ known c → (word out : List ℕ) (answer : DecodedWord) (after : List ℕ) → Bits word
-    → length word ≡ c.n → c.n ≤ length out → (P : Decoded → Type 0) → ((h : Mended c word out answer after) → P (Accepted (differ h.codeword word)))
-    → (Hopeless c word out answer after → (r : Refusal) → P (Refused r)) → Decoding number word out answer after → P answer.answer
+    → length word ≡ c.n → c.n ≤ length out → (P : Decoded → Type 0) → ((h : Mended c word out answer after) → P (Ok (differ h.codeword word)))
+    → (Hopeless c word out answer after → (r : Refusal) → P (Err r)) → Decoding number word out answer after → P answer.answer
 by_answer number {c} code word out answer after bits long room P found none decoding =
     go (all_pass (λ k. Decodes k word out answer after → Decodes (passes c) word out answer after) (λ d. d.n) word out c
     long room (none_bad word bits) (λ p. p) (rw code at decoding))
   where
-    of_mended : (m : ℕ) → P (Accepted m) → (a : Decoded) → of_decoded a ≡ accepted m 0 0 → P a
-    of_mended m p (Accepted k) e = rw (ap (λ (t : Told). t.mended) e) p
-    of_mended m p (Refused r) e = absurd (never_accepted r _ _ _ e)
+    of_mended : (m : ℕ) → P (Ok m) → (a : Decoded) → of_decoded a ≡ accepted m 0 0 → P a
+    of_mended m p (Ok k) e = rw (ap (λ (t : Told). t.mended) e) p
+    of_mended m p (Err r) e = absurd (never_accepted r _ _ _ e)
 
-    of_hopeless : ((r : Refusal) → P (Refused r)) → (a : Decoded) → of_decoded a ≡ refused 9 0 → P a
-    of_hopeless p (Accepted k) e = absurd (let z : ◌≡◌ {A = ℕ} 0 9 = ap (λ (t : Told). t.number) e in omega arith)
-    of_hopeless p (Refused r) e = p r
+    of_hopeless : ((r : Refusal) → P (Err r)) → (a : Decoded) → of_decoded a ≡ refused 9 0 → P a
+    of_hopeless p (Ok k) e = absurd (let z : ◌≡◌ {A = ℕ} 0 9 = ap (λ (t : Told). t.number) e in omega arith)
+    of_hopeless p (Err r) e = p r
 
     go : Decodes (passes c) word out answer after → P answer.answer
     go (inl h) = of_mended (differ h.codeword word) (found h) answer.answer (word_told answer h.tells)

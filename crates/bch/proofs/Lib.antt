@@ -4,10 +4,9 @@ pub mod Roots
 pub mod Triples
 pub mod Tops
 pub mod Nibbles
-pub mod Eights
-pub mod Filling
 pub mod Uniqueness
 pub mod Verdicts
+pub mod Entries
 pub mod Sounds
 pub mod Once
 pub mod Listings

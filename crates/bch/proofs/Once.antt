@@ -7,7 +7,7 @@ use Prim.Native.Nat.{ℕ, ◌<◌}
 use native.Mathlib.Decide.{dec_lt, ℕ_discrete}
 use native.Mathlib.Omega.{arith}
 use lib.ListN.{length, drop}
-use Rattle.answers.specs.Answers.{accepted_word}
+use Rattle.answers.specs.Answers.{accepted_word, Written}
 use Rattle.answers.specs.Checks.{Checked, fails, passes}
 use Rattle.answers.proofs.Telling.{written_same, word_same}
 use Rattle.bits.specs.Words.{first_bad, differ}
@@ -15,7 +15,6 @@ use Rattle.bits.specs.Places.{places}
 use Rattle.bch.specs.Codes.{Code, known, code1, code2, code3}
 use Rattle.bch.specs.Promise.{checked_by, checked, Encodes, Encoding, Decodes, Decoding, Mended}
 use Rattle.bch.specs.Held.{Rooted}
-use Rattle.answers.specs.declared.Written.{Written}
 use Rattle.answers.specs.declared.DecodedWord.{DecodedWord}
 use Rattle.bch.proofs.Verdicts.{unknown_code, wrong_length, no_room, not_a_bit, all_pass}
 use Rattle.bch.proofs.Generators.{rooted1, rooted2, rooted3}

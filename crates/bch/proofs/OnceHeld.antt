@@ -1,5 +1,5 @@
 -- What encode and decode stand on leaves one result too: a register is its number, a table is its entries, a code that is held is the code of its
--- number, and a verdict is what the checks find.
+-- number, and what is judged is what the checks find.
 -- Assumes nothing.
 use mathlib.Core.Path.{◌≡◌, refl, sym, ap, subst, ◌∙◌}
 use mathlib.Core.Logic.{by_cases}
@@ -19,10 +19,8 @@ use Rattle.bch.specs.Registers.{contents, whole, Remainders}
 use Rattle.bch.specs.Held.{code_of, Sound, Holds, Judged}
 use Rattle.bch.specs.declared.register.Register.{Register}
 use Rattle.bch.specs.declared.code.Held.{Held}
-use Rattle.bch.specs.declared.code.Numbered.{Numbered}
-use Rattle.bch.specs.declared.code.Numbered.TheVariants.{Known, Unknown}
-use Rattle.bch.specs.declared.checks.Verdict.{Verdict}
-use Rattle.bch.specs.declared.checks.Verdict.TheVariants.{Passes, Fails}
+use Rattle.std.specs.Prelude.{Option, Some, None, Result, Ok, Err}
+use Rattle.answers.specs.declared.Refusal.{Refusal}
 use Rattle.answers.proofs.Telling.{refusal_of, refusal_of_lem, never_accepted, because_is}
 use Rattle.bch.proofs.Triples.{joined_once}
 
@@ -82,9 +80,9 @@ held_once h g wh wg sh sg same =
 -- ---- the code of a number
 
 -- the words of the code that is held for a number are machine words
-abbrev pub WideNumbered : Numbered → Type 0
-WideNumbered (Known h) = Wide h.generator
-WideNumbered Unknown = Unit {0}
+abbrev pub WideNumbered : Option Held → Type 0
+WideNumbered (Some h) = Wide h.generator
+WideNumbered None = Unit {0}
 
 abbrev code_in : Named → Code
 code_in (known c) = c
@@ -94,19 +92,19 @@ abbrev is_known : Named → Bool
 is_known (known c) = true
 is_known unknown = false
 
-pub numbered_once : (c : ℕ) (p q : Numbered) → WideNumbered p → WideNumbered q → Holds c p → Holds c q → p ≡ q
-numbered_once c (Known h) (Known g) wh wg ph pg =
-    ap Known (held_once h g wh wg ph.0 pg.0 (ap code_in (sym ph.1 ∙ pg.1)))
-numbered_once c (Known h) Unknown wh wg ph pg = absurd (true≢false (ap is_known (sym ph.1 ∙ pg)))
-numbered_once c Unknown (Known h) wh wg ph pg = absurd (true≢false (ap is_known (sym pg.1 ∙ ph)))
-numbered_once c Unknown Unknown wh wg ph pg = refl
+pub numbered_once : (c : ℕ) (p q : Option Held) → WideNumbered p → WideNumbered q → Holds c p → Holds c q → p ≡ q
+numbered_once c (Some h) (Some g) wh wg ph pg =
+    ap Some (held_once h g wh wg ph.0 pg.0 (ap code_in (sym ph.1 ∙ pg.1)))
+numbered_once c (Some h) None wh wg ph pg = absurd (true≢false (ap is_known (sym ph.1 ∙ pg)))
+numbered_once c None (Some h) wh wg ph pg = absurd (true≢false (ap is_known (sym pg.1 ∙ ph)))
+numbered_once c None None wh wg ph pg = refl
 
--- ---- the verdict of the checks
+-- ---- what the checks answer
 
--- the words of the code that a verdict gives are machine words
-abbrev pub WideVerdict : Verdict → Type 0
-WideVerdict (Passes h) = Wide h.generator
-WideVerdict (Fails why) = Unit {0}
+-- the words of the code that they answer are machine words
+abbrev pub WideVerdict : Result Held Refusal → Type 0
+WideVerdict (Ok h) = Wide h.generator
+WideVerdict (Err why) = Unit {0}
 
 abbrev code_out : Checked Code → Code
 code_out (passes c) = c
@@ -117,12 +115,12 @@ abbrev told_out : Checked Code → Told
 told_out (passes c) = accepted 0 0 0
 told_out (fails n p) = refused n p
 
-pub judged_once : (c : ℕ) (whole : Bool) (word out : List ℕ) (p q : Verdict) → WideVerdict p → WideVerdict q
+pub judged_once : (c : ℕ) (whole : Bool) (word out : List ℕ) (p q : Result Held Refusal) → WideVerdict p → WideVerdict q
     → Judged c whole word out p → Judged c whole word out q → p ≡ q
-judged_once c whole word out (Passes h) (Passes g) wh wg ph pg =
-    ap Passes (held_once h g wh wg ph.0.sound pg.0.sound (ap code_out (sym ph.1 ∙ pg.1)))
-judged_once c whole word out (Passes h) (Fails r) wh wr ph pr = absurd (never_accepted r 0 0 0 (because_is r ∙ ap told_out (sym pr ∙ ph.1)))
-judged_once c whole word out (Fails r) (Passes h) wr wh pr ph = absurd (never_accepted r 0 0 0 (because_is r ∙ ap told_out (sym pr ∙ ph.1)))
-judged_once c whole word out (Fails r) (Fails s) wr ws pr ps =
+judged_once c whole word out (Ok h) (Ok g) wh wg ph pg =
+    ap Ok (held_once h g wh wg ph.0.sound pg.0.sound (ap code_out (sym ph.1 ∙ pg.1)))
+judged_once c whole word out (Ok h) (Err r) wh wr ph pr = absurd (never_accepted r 0 0 0 (because_is r ∙ ap told_out (sym pr ∙ ph.1)))
+judged_once c whole word out (Err r) (Ok h) wr wh pr ph = absurd (never_accepted r 0 0 0 (because_is r ∙ ap told_out (sym pr ∙ ph.1)))
+judged_once c whole word out (Err r) (Err s) wr ws pr ps =
     let tells : because r ≡ because s = because_is r ∙ ap told_out (sym pr ∙ ps) ∙ sym (because_is s) in
-    ap Fails (sym (refusal_of_lem r) ∙ ap refusal_of tells ∙ refusal_of_lem s)
+    ap Err (sym (refusal_of_lem r) ∙ ap refusal_of tells ∙ refusal_of_lem s)

@@ -1,7 +1,7 @@
 -- How the code holds a code, and what is known of it.
 -- The promise of encode and decode rests on nothing here: it is what the jobs and what they stand on promise one another.
 -- Assumes nothing.
-use Rattle.std.specs.Prelude.{◌≡◌, Bool, cond, List, ℕ, suc, ◌-◌, ◌*◌, ◌/◌, ◌%◌, ◌^◌, ◌≤◌, ◌<◌, length}
+use Rattle.std.specs.Prelude.{◌≡◌, Bool, cond, List, ℕ, suc, eqb, ◌-◌, ◌*◌, ◌/◌, ◌%◌, ◌^◌, ◌≤◌, ◌<◌, length, Option, Some, None, Result, Ok, Err}
 use Rattle.algebra.proofs.Powers.{pow}
 use Rattle.field.proofs.Elements.{gf512}
 use Rattle.field.proofs.Values.{a, value}
@@ -9,12 +9,10 @@ use Rattle.bits.specs.Words.{Bits, digits}
 use Rattle.answers.specs.Checks.{passes, failing}
 use Rattle.bch.specs.Codes.{Code, Named, known, unknown, named}
 use Rattle.bch.specs.Promise.{checked_by}
-use Rattle.bch.specs.Registers.{whole}
+use Rattle.bch.specs.Registers.{whole, Remainders}
 use Rattle.bch.specs.declared.code.Held.{Held}
-use Rattle.bch.specs.declared.code.Numbered.{Numbered}
-use Rattle.bch.specs.declared.code.Numbered.TheVariants.{Known, Unknown}
-use Rattle.bch.specs.declared.checks.Verdict.{Verdict}
-use Rattle.bch.specs.declared.checks.Verdict.TheVariants.{Passes, Fails}
+use Rattle.bch.specs.declared.tables.TheConstants.{TABLE1, TABLE2, TABLE3}
+use Rattle.answers.specs.declared.Refusal.{Refusal}
 
 -- a code of at most 511 places whose generator has the roots a, a^2, .., a^2t
 pub record Rooted (c : Code) : Type 0 where
@@ -27,7 +25,11 @@ pub record Rooted (c : Code) : Type 0 where
 abbrev pub code_of : Held → Code
 code_of h = record { n = h.n; k = h.k; t = h.t; generator = whole h.generator / 2 ^ (192 - (h.n - h.k)) }
 
--- what is known of a code that is held, its information whole bytes; it is one of three, so all of this is computed
+-- its table of remainders; no two of the three codes mend as many
+unfoldable pub table_of : Held → List ℕ
+table_of h = cond (eqb h.t 4) TABLE1 (cond (eqb h.t 8) TABLE2 TABLE3)
+
+-- what is known of a code that is held, its information whole bytes, and its table; it is one of three, so all of this is computed
 pub record Sound (h : Held) : Type 0 where
   pub rooted : Rooted (code_of h)
   pub narrow : h.n - h.k ≤ 192
@@ -35,11 +37,12 @@ pub record Sound (h : Held) : Type 0 where
   pub few : h.t ≤ 16
   pub bytes : h.k % 8 ≡ 0
   pub exact : whole h.generator ≡ (code_of h).generator * 2 ^ (192 - (h.n - h.k))
+  pub table : Remainders (whole h.generator) (table_of h)
 
 -- the code of a number is held, or there is none
-abbrev pub Holds : ℕ → Numbered → Type 0
-Holds c (Known h) = Sound h × (named c ≡ known (code_of h))
-Holds c Unknown = named c ≡ unknown
+abbrev pub Holds : ℕ → Option Held → Type 0
+Holds c (Some h) = Sound h × (named c ≡ known (code_of h))
+Holds c None = named c ≡ unknown
 
 -- a sound code, a word of `size` bits, and room for n elements
 pub record Fitting (h : Held) (size : ℕ) (word out : List ℕ) : Type 0 where
@@ -53,10 +56,10 @@ abbrev pub size_of : Bool → Code → ℕ
 size_of whole c = cond whole c.n c.k
 
 -- the checks pass, and all is there that the job needs; or one fails
-abbrev pub JudgedBy : Named → Bool → List ℕ → List ℕ → Verdict → Type 0
-JudgedBy c whole word out (Passes h) = Fitting h (size_of whole (code_of h)) word out × (checked_by c (size_of whole) word out ≡ passes (code_of h))
-JudgedBy c whole word out (Fails why) = checked_by c (size_of whole) word out ≡ failing why
+abbrev pub JudgedBy : Named → Bool → List ℕ → List ℕ → Result Held Refusal → Type 0
+JudgedBy c whole word out (Ok h) = Fitting h (size_of whole (code_of h)) word out × (checked_by c (size_of whole) word out ≡ passes (code_of h))
+JudgedBy c whole word out (Err why) = checked_by c (size_of whole) word out ≡ failing why
 
 -- the code by its number
-abbrev pub Judged : ℕ → Bool → List ℕ → List ℕ → Verdict → Type 0
+abbrev pub Judged : ℕ → Bool → List ℕ → List ℕ → Result Held Refusal → Type 0
 Judged c = JudgedBy (named c)

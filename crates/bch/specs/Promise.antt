@@ -2,9 +2,8 @@
 -- Demand 3 is `Mended` and `Hopeless`: a codeword is answered exactly when one lies within t.
 -- Assumes nothing.
 use Rattle.std.specs.Prelude.{◌≡◌, ◌⊎◌, List, ◌++◌, ℕ, eqb, ltb, length, drop, cond}
-use Rattle.answers.specs.Answers.{accepted, refused, of_written, of_word, accepted_word, refused_word}
+use Rattle.answers.specs.Answers.{accepted, refused, of_written, of_word, accepted_word, refused_word, Written}
 use Rattle.answers.specs.Checks.{Checked, fails, passes}
-use Rattle.answers.specs.declared.Written.{Written}
 use Rattle.answers.specs.declared.DecodedWord.{DecodedWord}
 use Rattle.bits.specs.Words.{first_bad, differ}
 use Rattle.bits.specs.Places.{places}

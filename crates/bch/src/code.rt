@@ -1,7 +1,9 @@
 // The three codes as the code holds them: the generator stands at the top of a register, without its highest digit.
-ghost use Rattle.bch.specs.Held.{Holds};
+ghost use Rattle.std.specs.Prelude.{◌≡◌};
+ghost use Rattle.bch.specs.Held.{Holds, code_of, size_of, table_of};
 
 use crate::register::Register;
+use crate::tables::{TABLE1, TABLE2, TABLE3};
 
 #[derive(Clone, Copy)]
 pub struct Held {
@@ -9,6 +11,26 @@ pub struct Held {
     pub k: usize,
     pub t: usize,
     pub generator: Register,
+}
+
+impl Held {
+    // How many bits a word should have: a whole one, or the information alone.
+    pub(crate) fn size(&self, whole: bool) -> usize
+        ensures { result ≡ size_of whole (code_of self.now) }
+    {
+        if whole { self.n } else { self.k }
+    }
+
+    // The remainders by the generator that words are taken in by.
+    pub fn table(&self) -> &'static [u64; 192]
+        ensures { result.now ≡ table_of self.now }
+    {
+        match self.t {
+            4 => &TABLE1,
+            8 => &TABLE2,
+            _ => &TABLE3,
+        }
+    }
 }
 
 // (508, 472), mends 4.
@@ -47,20 +69,14 @@ const CODE3: Held = Held {
     },
 };
 
-// The code of a number, if there is one.
-#[derive(Clone, Copy)]
-pub enum Numbered {
-    Known(Held),
-    Unknown,
-}
-
-pub fn of_number(code: u8) -> Numbered
+// The code of a number, if there is one. Any byte may come in, from C too, so it is asked for by number.
+pub fn of_number(code: u8) -> Option<Held>
     ensures { Holds code result }
 {
     match code {
-        1 => Numbered::Known(CODE1),
-        2 => Numbered::Known(CODE2),
-        3 => Numbered::Known(CODE3),
-        _ => Numbered::Unknown,
+        1 => Some(CODE1),
+        2 => Some(CODE2),
+        3 => Some(CODE3),
+        _ => None,
     }
 }

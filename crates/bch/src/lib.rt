@@ -6,8 +6,10 @@
 //   code       the three codes as the code holds them
 //   checks     the checks 1, 2, 3 and 4
 //   register   remainders, in three machine words
+//   tables     remainders of four digits by each generator, from which longer ones are added up
 #![tactic(auto)]
 
 pub mod checks;
 pub mod code;
 pub mod register;
+mod tables;

@@ -8,6 +8,8 @@ pub mod Remainders
 pub mod Falling
 pub mod Numbers
 pub mod Octets
+pub mod Sides
+pub mod Chunks
 pub mod Parts
 pub mod Copies
 pub mod Informing

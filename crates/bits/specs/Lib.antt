@@ -2,3 +2,4 @@ pub mod Words
 pub mod Places
 pub mod Remainders
 pub mod Bytes
+pub mod Sides

@@ -3,24 +3,18 @@
 #![tactic(auto)]
 
 ghost use Rattle.std.specs.Prelude.{◌≡◌, ◌*◌, ◌%◌, ◌^◌, ◌<◌, ◌≤◌, ◌++◌, length, drop};
-ghost use Rattle.bits.specs.Words.{Bits, digits, first_bad};
+ghost use Rattle.bits.specs.Words.{Bits, lowest, digits, first_bad};
 ghost use Rattle.bits.specs.Bytes.{bits_of, as_number, bytes_of, bits_put, bytes_put};
 
-// The index of the first element that is neither 0 nor 1; the length where there is none.
+// The index of the first element that is neither 0 nor 1; the length where there is none. Not an Option: that the answer is a place is the contract's word,
+// `first_bad`, of which refusals and theorems above speak.
 pub fn first_bad(word: &[u8]) -> usize
     ensures { result ≡ first_bad word.now }
 {
     if any(word) < 2 {
         return word.len();
     }
-    let mut i: usize = 0;
-    while i < word.len() {
-        if 1 < word[i] {
-            return i;
-        }
-        i += 1;
-    }
-    i
+    word.iter().position(|b| 1 < *b).unwrap_or(word.len())
 }
 
 // Every binary digit that some element has: where that is below 2, all are bits. It takes no branch, so that many elements go at once.
@@ -28,10 +22,8 @@ fn any(word: &[u8]) -> u8
     ensures { result < 2 → Bits word.now }
 {
     let mut all: u8 = 0;
-    let mut i: usize = 0;
-    while i < word.len() {
-        all = all | word[i];
-        i += 1;
+    for b in word {
+        all |= *b;
     }
     all
 }
@@ -41,9 +33,7 @@ pub fn put_digits(x: u32, out: &mut [u8])
     ensures { out.new ≡ digits (length out.old) x }
 {
     let mut rest = x;
-    let mut i: usize = out.len();
-    while 0 < i {
-        i -= 1;
+    for i in (0..out.len()).rev() {
         out[i] = (rest % 2) as u8;
         rest /= 2;
     }
@@ -54,12 +44,19 @@ pub fn as_number(bits: &[u8]) -> u32
     ensures { result ≡ as_number bits.now % 2 ^ 32 }
 {
     let mut x: u32 = 0;
-    let mut i: usize = 0;
-    while i < bits.len() {
-        x = x % 0x8000_0000 * 2 + (bits[i] % 2) as u32;
-        i += 1;
+    for b in bits {
+        x = x % 0x8000_0000 * 2 + u32::from(*b % 2);
     }
     x
+}
+
+// The number that the lowest digits of eight elements are the digits of, the first the highest.
+pub fn eight(bits: &[u8; 8]) -> u8
+    ensures { digits 8 result ≡ lowest bits.now }
+{
+    // A digit in each byte, the first the lowest. Each digit of the factor moves one of them to its place among the highest eight of the product.
+    let ones = u64::from_le_bytes(*bits) & 0x0101_0101_0101_0101;
+    (ones.wrapping_mul(0x8040_2010_0804_0201) >> 56) as u8
 }
 
 // The bits of a frame, where out has just room for them.
@@ -96,10 +93,8 @@ pub fn put_front(from: &[u8], to: &mut [u8])
     if to.len() < from.len() {
         return;
     }
-    let mut k: usize = 0;
-    while k < from.len() {
+    for k in 0..from.len() {
         to[k] = from[k];
-        k += 1;
     }
 }
 
@@ -107,11 +102,9 @@ fn write_bits(frame: &[u8], out: &mut [u8])
     requires { length out.old ≡ 8 * length frame.now }
     ensures { out.new ≡ bits_of frame.now }
 {
-    let mut i: usize = 0;
-    while i < frame.len() {
+    for i in 0..frame.len() {
         let at = i * 8;
-        put_digits(frame[i] as u32, &mut out[at..at + 8]);
-        i += 1;
+        put_digits(u32::from(frame[i]), &mut out[at..at + 8]);
     }
 }
 
@@ -119,10 +112,8 @@ fn write_bytes(bits: &[u8], out: &mut [u8])
     requires { length bits.now ≡ 8 * length out.old }
     ensures { out.new ≡ bytes_of (length out.old) bits.now }
 {
-    let mut i: usize = 0;
-    while i < out.len() {
-        let at = i * 8;
-        out[i] = as_number(&bits[at..at + 8]) as u8;
-        i += 1;
+    let (eights, _) = bits.as_chunks::<8>();
+    for i in 0..out.len() {
+        out[i] = eight(&eights[i]);
     }
 }

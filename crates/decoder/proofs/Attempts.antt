@@ -1,11 +1,10 @@
 -- What the locator of a word's syndromes says of the codewords within t, and what a word with one place flipped is.
 -- Assumes nothing.
-use mathlib.Core.Path.{◌≡◌, sym, ap, ap₂, subst, ◌∙◌}
-use mathlib.Core.Logic.{inl, inr}
+use mathlib.Core.Path.{◌≡◌, sym, ap, ap₂, ◌∙◌}
 use mathlib.Core.List.{List, [], ◌∷◌, ◌++◌}
 use Prim.Native.Nat.{ℕ, suc, ◌-◌, ◌*◌, ◌≤◌, ◌<◌}
 use native.Mathlib.Omega.{arith}
-use lib.ListN.{length, drop, get_or, set, length-set}
+use lib.ListN.{length, drop, get_or, set, replicate, length-set}
 use Rattle.algebra.proofs.Berlekamp.{Found}
 use Rattle.field.proofs.Elements.{gf512}
 use Rattle.field.proofs.Values.{series}
@@ -16,19 +15,19 @@ use Rattle.bch.specs.Registers.{tops}
 use Rattle.decoder.specs.Locators.{Turned}
 use Rattle.decoder.specs.Syndromes.{Syndromes}
 use Rattle.bch.specs.Held.{Sound, code_of}
-use Rattle.decoder.specs.Candidates.{leftover, Candidate, SingleBy, Single, Settles}
+use Rattle.decoder.specs.Candidates.{leftover, word_of, Candidate, Single, Several, Settles}
 use Rattle.decoder.specs.declared.search.Flips.{Flips}
 use Rattle.answers.specs.Answers.{accepted, listed, of_word, accepted_word}
-use Rattle.answers.specs.Checks.{passes}
-use Rattle.bch.specs.Promise.{Decodes, Mended}
-use Rattle.answers.specs.declared.Decoded.TheVariants.{Accepted}
-use Rattle.answers.specs.declared.DecodedWord.{DecodedWord}
+use Rattle.packed.specs.Packed.{bits512}
+use Rattle.bch.specs.Promise.{Mended}
+use Rattle.decoder.specs.declared.DecodedPacked.{DecodedPacked}
 use Rattle.bch.specs.declared.code.Held.{Held}
 use Rattle.bits.proofs.Copies.{bits_set}
 use Rattle.bits.proofs.Distances.{differ_self}
 use Rattle.bits.proofs.Placing.{as_many, places_self, places_flipped}
 use Rattle.decoder.proofs.Leftovers.{value_left}
 use Rattle.decoder.proofs.Completeness.{turned_bits, few, exact, complete}
+use Rattle.std.specs.Prelude.{Option, Some, None, Ok}
 
 module _ {h : Held} (sound : Sound h) (w : List ℕ) (bits : Bits w) (long : length w ≡ h.n)
     (s : List ℕ) (known : Syndromes (tops (h.n - h.k) (leftover h w)) (h.t * 2) s)
@@ -59,23 +58,20 @@ module _ {h : Held} (sound : Sound h) (w : List ℕ) (bits : Bits w) (long : len
     }
 
 -- the only candidate is the answer exactly where it is a codeword
-pub settled : {c : Code} {word copy : List ℕ} {flips : Flips} → Candidate c word copy flips
-    → (out : List ℕ) (answer : DecodedWord) (after : List ℕ) → Settles c copy out flips answer after → Decodes (passes c) word out answer after
-settled {c} {word} {copy} candidate out answer after (inl (codeword, e, left)) = inl (record {
-  codeword = copy;
-  within = record { codeword = codeword; near = (let n = candidate.near in let k = candidate.count in omega arith) };
-  tells = ap of_word e ∙ ap₂ (λ (n : ℕ) (l : List ℕ). record { told = accepted n 0 0; places = l }) candidate.count candidate.list;
-  left = left;
-})
-settled {c} candidate out answer after (inr (not, e, left)) = inr (record {
-  none = λ v within. not (rw (candidate.only v within) at within.codeword);
-  tells = ap of_word e;
-  left = left;
-})
+pub settled : (h : Held) (words copy : List ℕ) {flips : Flips} → Candidate (code_of h) (word_of h words) (word_of h copy) flips
+    → bits512 copy ≡ word_of h copy ++ drop h.n (replicate 512 0) → (r : Option DecodedPacked) → Settles h flips copy r → Several h words r
+settled h words copy found written (Some r) (codeword, e) = record {
+  codeword = word_of h copy;
+  within = record { codeword = codeword; near = (let n = found.near in let k = found.count in omega arith) };
+  tells = ap (λ (d : DecodedPacked). of_word d.told) e
+      ∙ ap₂ (λ (n : ℕ) (l : List ℕ). record { told = accepted n 0 0; places = l }) found.count found.list;
+  left = ap (λ (d : DecodedPacked). bits512 d.bits) e ∙ written;
+}
+settled h words copy found written None not = λ v within. not (rw (found.only v within) at within.codeword)
 
 -- a codeword is its own answer
 pub clean : {c : Code} {word out after : List ℕ} → Codeword c word → after ≡ word ++ drop c.n out
-    → Mended c word out (record { answer = Accepted 0; places = listed [] }) after
+    → Mended c word out (record { answer = Ok 0; places = listed [] }) after
 clean {c} {word} codeword e = record {
   codeword = word;
   within = record { codeword = codeword; near = (let z = differ_self word in omega arith) };
@@ -100,15 +96,15 @@ neighbour w p bits low = record {
 }
 
 -- a neighbour that is a codeword is the answer
-pub settled_neighbour : {w copy : List ℕ} {p : ℕ} → Neighbour w copy p → (c : Code) (out : List ℕ) (answer : DecodedWord) (after : List ℕ) → 1 ≤ c.t
-    → Settles c copy out (record { count = 1; places = listed (p ∷ []) }) answer after → Single c w out answer after
-settled_neighbour {w} {copy} {p} near c out answer after mends (inl (codeword, e, left)) =
-    let apart : differ copy w ≡ 1 = sym (as_many copy w) ∙ ap length near.there in
-    subst (λ d. SingleBy c w out answer d after) (sym (ap (λ (r : DecodedWord). r.answer) e)) (record {
-      codeword = copy;
+pub settled_neighbour : (h : Held) (words copy : List ℕ) {p : ℕ} → Neighbour (word_of h words) (word_of h copy) p
+    → bits512 copy ≡ word_of h copy ++ drop h.n (replicate 512 0) → 1 ≤ h.t
+    → (r : Option DecodedPacked) → Settles h (record { count = 1; places = listed (p ∷ []) }) copy r → Single h words r
+settled_neighbour h words copy near written mends (Some r) (codeword, e) =
+    let w = word_of h words in
+    let apart : differ (word_of h copy) w ≡ 1 = sym (as_many (word_of h copy) w) ∙ ap length near.there in record {
+      codeword = word_of h copy;
       within = record { codeword = codeword; near = omega (arith, apart) };
-      tells = ap of_word e ∙ ap₂ accepted_word (sym apart) (sym near.there);
-      left = left;
-    })
-settled_neighbour {w} near c out answer after mends (inr (_, e, left)) =
-    subst (λ d. SingleBy c w out answer d after) (sym (ap (λ (r : DecodedWord). r.answer) e)) left
+      tells = ap (λ (d : DecodedPacked). of_word d.told) e ∙ ap₂ accepted_word (sym apart) (sym near.there);
+      left = ap (λ (d : DecodedPacked). bits512 d.bits) e ∙ written;
+    }
+settled_neighbour h words copy near written mends None _ = tt

@@ -9,11 +9,11 @@ use lib.ListN.{get_or}
 use Rattle.algebra.proofs.Fields.{add-zero, zero-mul}
 use Rattle.algebra.proofs.Sums.{sum, sum_nil, sum-suc}
 use Rattle.algebra.proofs.Series.{conv, conv-sum}
-use Rattle.field.specs.Tables.{product_from}
-use Rattle.field.proofs.Elements.{gf512, element_of, of_0, of_xor}
+use Rattle.field.specs.Field.{product}
+use Rattle.field.proofs.Products.{product_lt}
+use Rattle.field.proofs.Elements.{gf512, element_of, of_0, of_product, of_xor}
 use Rattle.field.proofs.Values.{series}
-use Rattle.decoder.specs.Locators.{Lent, Ends}
-use Rattle.decoder.proofs.Lents.{lent_product, lent_small}
+use Rattle.decoder.specs.Locators.{Ends}
 
 module _ (f g : List ℕ) (r : ℕ) where
   abbrev term : ℕ → gf512.Element
@@ -28,12 +28,11 @@ module _ {f g : List ℕ} {r : ℕ} where
   pub summed_none : Summed f g r 0 0
   summed_none = record { sums = of_0 ∙ sym (sum_nil gf512 _); small = omega arith }
 
-  pub summed_more : {logs powers : List ℕ} {n d : ℕ} → Lent logs powers → Summed f g r n d
-      → Summed f g r (suc n) (bit_xor d (product_from logs powers (get_or f n 0) (get_or g (r - n) 0)))
+  pub summed_more : {n d : ℕ} → Summed f g r n d → Summed f g r (suc n) (bit_xor d (product (get_or f n 0) (get_or g (r - n) 0)))
   unfolding series
-  summed_more lent h = record {
-    sums = of_xor _ _ ∙ ap₂ gf512.add h.sums (lent_product lent _ _) ∙ sym (sum-suc gf512 _ _);
-    small = xor_lt 9 _ _ h.small (lent_small lent _ _);
+  summed_more h = record {
+    sums = of_xor _ _ ∙ ap₂ gf512.add h.sums (of_product _ _) ∙ sym (sum-suc gf512 _ _);
+    small = xor_lt 9 _ _ h.small (product_lt _ _);
   }
 
   -- behind the last entry of f the terms are zero, so that the k that are missing add nothing

@@ -7,13 +7,11 @@ use Prim.Native.Nat.{ℕ, ◌-◌, ◌≤◌, ◌<◌}
 use native.Mathlib.Omega.{arith}
 use lib.ListN.{length, take, drop, get_or, replicate, length-take, length-replicate}
 use lib.Seq.{take_all, take_at, get_or-take}
-use Rattle.answers.specs.Answers.{most_places, ToldWord, of_decoded, of_word, accepted_word, no_word}
+use Rattle.answers.specs.Answers.{most_places, ToldWord, of_decoded, of_word, accepted_word, no_word, Decoded}
 use Rattle.answers.specs.Checks.{passes}
 use Rattle.answers.specs.declared.Refusal.{Refusal}
 use Rattle.answers.specs.declared.Refusal.TheVariants.{Unknown}
 use Rattle.answers.specs.declared.Told.{Told}
-use Rattle.answers.specs.declared.Decoded.{Decoded}
-use Rattle.answers.specs.declared.Decoded.TheVariants.{Accepted, Refused}
 use Rattle.answers.specs.declared.DecodedWord.{DecodedWord}
 use Rattle.answers.proofs.Telling.{never_accepted, word_told, not_refused}
 use Rattle.bits.specs.Words.{Bits, lowest, differ}
@@ -30,6 +28,7 @@ use Rattle.decoder.specs.Candidates.{word_of, Clear, DecodesPacked}
 use Rattle.decoder.specs.Promise.{bits_by, DecodingPacked}
 use Rattle.decoder.specs.declared.DecodedPacked.{DecodedPacked}
 use Rattle.decoder.proofs.PackedWords.{word_long, word_bits}
+use Rattle.std.specs.Prelude.{Ok, Err}
 
 -- ---- a word of n bits, packed
 
@@ -53,7 +52,7 @@ pub record Answered (c : Code) (word : List ℕ) (answer : DecodedWord) (m : ℕ
 
 -- whatever list was lent
 module _ {c : Code} (word : List ℕ) (bits : Bits word) (long : length word ≡ c.n) {old after : List ℕ} (answer : DecodedWord) where
-  answered : (m : ℕ) → answer.answer ≡ Accepted m → Decodes (passes c) word old answer after → Answered c word answer m
+  answered : (m : ℕ) → answer.answer ≡ Ok m → Decodes (passes c) word old answer after → Answered c word answer m
   answered m e (inl h) =
       let v = h.codeword in
       let is = h.within.codeword in
@@ -67,7 +66,7 @@ module _ {c : Code} (word : List ℕ) (bits : Bits word) (long : length word ≡
       }
   answered m e (inr h) = absurd (not_refused (ap of_decoded e) (word_told answer h.tells) (omega arith))
 
-  refused : (why : Refusal) → answer.answer ≡ Refused why → (out : List ℕ) → Decodes (passes c) word old answer after → Decodes (passes c) word out answer out
+  refused : (why : Refusal) → answer.answer ≡ Err why → (out : List ℕ) → Decodes (passes c) word old answer after → Decodes (passes c) word out answer out
   refused why e out (inl h) = absurd (never_accepted why _ _ _ (ap of_decoded (sym e) ∙ word_told answer h.tells))
   refused why e out (inr h) = inr (record { none = h.none; tells = h.tells; left = refl })
 
@@ -103,10 +102,10 @@ module _ {h : Held} {word out : List ℕ} (fit : Fitting h h.n word out) (words 
     told : Decodes (passes (code_of h)) word (replicate 512 0) r.told (bits512 r.bits)
     told = rw (packed_word h words word fit.long packed) at mends
 
-    pub elements_answered : (m : ℕ) → r.told.answer ≡ Accepted m → Answered (code_of h) word r.told m
+    pub elements_answered : (m : ℕ) → r.told.answer ≡ Ok m → Answered (code_of h) word r.told m
     elements_answered m is = answered word fit.bits fit.long r.told m is told
 
-    pub elements_refused : (why : Refusal) → r.told.answer ≡ Refused why → Decodes (passes (code_of h)) word out r.told out
+    pub elements_refused : (why : Refusal) → r.told.answer ≡ Err why → Decodes (passes (code_of h)) word out r.told out
     elements_refused why is = refused word fit.bits fit.long r.told why is out told
 
 -- ---- the answer for a packed word

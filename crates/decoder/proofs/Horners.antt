@@ -81,7 +81,7 @@ module _ (m b : ℕ) (few : m ≤ 8) (fits : b < 2 ^ m) where
         of_xor (bit_xor up high_at) low_at ∙ ap (λ (u : Element). u ⊕ element_of low_at) (of_xor up high_at)
         ∙ sym (value_from_start (element_of s) (odd_power l) (digits m b) ∙ rw (value_read, length_digits, pow-mul, is, mul_comm m (2 * l + 1)) (simp ring))
 
-pub exponent : (m l : ℕ) → m ≤ 8 → l < 16 → m * (2 * l + 1) < 511
+pub exponent : (m l : ℕ) → m ≤ 8 → l < 16 → m * (2 * l + 1) < 256
 exponent m l few low = let e : m * (2 * l + 1) ≤ 8 * (2 * l + 1) = mul-le-mul_right (2 * l + 1) few in omega arith
 
 -- ---- sums that take in coefficients one after the other

@@ -1,4 +1,3 @@
-pub mod Lents
 pub mod Leftovers
 pub mod Completeness
 pub mod Shifts

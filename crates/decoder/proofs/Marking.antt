@@ -4,26 +4,24 @@ use mathlib.Core.Path.{◌≡◌, refl, sym, ap, ◌∙◌}
 use mathlib.Core.Logic.{◌≢◌}
 use mathlib.Core.List.{List}
 use Prim.Native.Nat.{ℕ, suc, ◌+◌, ◌-◌, ◌*◌, ◌/◌, ◌%◌, ◌≤◌, ◌<◌}
-use native.Mathlib.Nat.{mod-lt}
+use native.Mathlib.Nat.{mod-lt, mod-eq_of_lt}
 use native.Mathlib.Decide.{dec_lt, ℕ_discrete}
 use native.Mathlib.Omega.{arith}
 use lib.Dec.{lit<}
 use lib.ListN.{length, get_or, set, replicate}
 use lib.Seq.{get_or-set_same, get_or-set_other}
 use Rattle.algebra.proofs.Powers.{pow}
-use Rattle.field.specs.Field.{power}
-use Rattle.field.specs.Tables.{log_table, power_table}
+use Rattle.field.specs.Field.{element, power}
 use Rattle.field.proofs.Elements.{gf512, element_of}
 use Rattle.field.proofs.Values.{a, of_power}
 use Rattle.field.proofs.Powers.{power-lt, power-mod, power-ne_0, power_0, power_511}
-use Rattle.field.proofs.Logarithms.{power-log, power_inj}
+use Rattle.field.proofs.Logarithms.{power_inj}
 use Rattle.bits.specs.Words.{digits}
 use Rattle.packed.specs.Packed.{bits_from, bits512}
 use Rattle.packed.proofs.Walks.{length_512}
 use Rattle.roots.specs.Searches.{Searched, locator_at}
-use Rattle.decoder.specs.Locators.{Lent, value_at}
+use Rattle.decoder.specs.Locators.{value_at}
 use Rattle.decoder.specs.Marks.{root_at, Exponent, Placed}
-use Rattle.decoder.proofs.Lents.{log_of, log_zero, log_low, log_le}
 use Rattle.decoder.proofs.Shifts.{zeros_at}
 
 -- ---- exponents
@@ -34,29 +32,24 @@ once g e hg he kg ke q =
     let same : g % 511 ≡ e % 511 = power_inj (g % 511) (e % 511) (mod-lt g (lit< tt)) (mod-lt e (lit< tt)) (power-mod g ∙ q ∙ sym (power-mod e)) in
     omega arith
 
-module _ {logs : List ℕ} (is : logs ≡ log_table) (v : ℕ) (h : v < 512) where
-  lent : Lent logs power_table
-  lent = record { logs_are = is; powers_are = refl }
-
-  pub log_most : get_or logs v 0 ≤ 1021
-  log_most = log_le lent v h
-
-  power_of : v ≢ 0 → power (get_or logs v 0) ≡ v
-  power_of n = rw (log_of lent v h) (power-log v n h)
-
+module _ (v : ℕ) (h : v < 512) where
   -- the three answers
-  pub exponent_first : get_or logs v 0 ≡ 0 → Exponent v 511
-  exponent_first e = record {
+  pub exponent_first : power 0 ≡ element v → Exponent v 511
+  exponent_first is = record {
     most = omega arith;
-    zero = λ z. absurd (omega (arith, log_zero lent v h z));
-    other = λ n. (omega arith, power_511 ∙ sym power_0 ∙ ap power (sym e) ∙ power_of n);
+    zero = λ z. absurd (power-ne_0 0 (is ∙ mod-eq_of_lt h ∙ z));
+    other = λ n. (omega arith, power_511 ∙ sym power_0 ∙ is ∙ mod-eq_of_lt h);
   }
 
-  pub exponent_none : 511 < get_or logs v 0 → Exponent v 0
-  exponent_none k = record { most = omega arith; zero = λ z. refl; other = λ n. absurd (omega (arith, log_low lent v h n)) }
+  pub exponent_none : element v ≡ 0 → Exponent v 0
+  exponent_none is = record { most = omega arith; zero = λ z. refl; other = λ n. absurd (n (sym (mod-eq_of_lt h) ∙ is)) }
 
-  pub exponent_some : (get_or logs v 0 ≡ 0 → ⊥) → get_or logs v 0 ≤ 511 → Exponent v (get_or logs v 0)
-  exponent_some p k = record { most = omega arith; zero = λ z. absurd (omega (arith, log_zero lent v h z)); other = λ n. (omega arith, power_of n) }
+  pub exponent_some : (e : ℕ) → 0 < e → e < 511 → power e ≡ element v → Exponent v e
+  exponent_some e p k is = record {
+    most = omega arith;
+    zero = λ z. absurd (power-ne_0 e (is ∙ mod-eq_of_lt h ∙ z));
+    other = λ n. (p, is ∙ mod-eq_of_lt h);
+  }
 
 -- ---- zeros taken in one after the other
 

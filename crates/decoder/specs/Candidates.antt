@@ -1,22 +1,18 @@
 -- The remainder of a whole word, and what is tried to mend it.
 -- The promise of decode rests on nothing here: it is what the private functions promise one another.
 -- Assumes nothing.
-use Rattle.std.specs.Prelude.{◌≡◌, ◌⊎◌, List, ◌++◌, ℕ, suc, ◌-◌, ◌*◌, ◌/◌, ◌≤◌, length, take, drop, replicate}
+use Rattle.std.specs.Prelude.{◌≡◌, List, ℕ, ◌-◌, ◌/◌, ◌≤◌, length, take, drop, replicate, Option, Some, None, Ok}
 use Rattle.std.specs.Int.Bits.{bit_xor}
 use Rattle.bits.specs.Words.{Bits, differ}
 use Rattle.bits.specs.Places.{places}
 use Rattle.bits.specs.Remainders.{remainder}
 use Rattle.bch.specs.Codes.{Code, Codeword, Within}
 use Rattle.bch.specs.Promise.{Mended, Decodes}
-use Rattle.bch.specs.Held.{Sound, code_of}
+use Rattle.bch.specs.Held.{code_of}
 use Rattle.packed.specs.Packed.{bits512, padded}
-use Rattle.bch.specs.Registers.{whole, at_top, Remainders}
-use Rattle.answers.specs.Answers.{listed, no_word}
+use Rattle.bch.specs.Registers.{whole, at_top}
+use Rattle.answers.specs.Answers.{listed}
 use Rattle.answers.specs.Checks.{passes}
-use Rattle.answers.specs.declared.Refusal.TheVariants.{Uncorrectable}
-use Rattle.answers.specs.declared.Decoded.{Decoded}
-use Rattle.answers.specs.declared.Decoded.TheVariants.{Accepted, Refused}
-use Rattle.answers.specs.declared.DecodedWord.{DecodedWord}
 use Rattle.bch.specs.declared.code.Held.{Held}
 use Rattle.decoder.specs.declared.DecodedPacked.{DecodedPacked}
 use Rattle.decoder.specs.declared.search.Flips.{Flips}
@@ -28,11 +24,6 @@ leftover h w = bit_xor (remainder 192 (whole h.generator) (take h.k w)) (at_top 
 -- the machine words of an entry that its remainders reach into, below the highest
 abbrev pub below_of : Held → ℕ
 below_of h = (h.n - h.k - 1) / 64
-
--- a sound code, with its table, of whose entries these and the highest are read
-pub record Ready (h : Held) (table : List ℕ) : Type 0 where
-  pub sound : Sound h
-  pub rule : Remainders (whole h.generator) (take (64 * suc (below_of h)) table)
 
 -- the word that is packed: the first n bits
 unfoldable pub word_of : Held → List ℕ → List ℕ
@@ -55,16 +46,22 @@ pub record Candidate (c : Code) (word copy : List ℕ) (flips : Flips) : Type 0 
   pub near : flips.count ≤ c.t
   pub only : (v : List ℕ) → Within c word v → v ≡ copy
 
--- a first try: the answer, or nothing is written
-abbrev pub SingleBy : Code → List ℕ → List ℕ → DecodedWord → Decoded → List ℕ → Type 0
-SingleBy c word out r (Accepted m) after = Mended c word out r after
-SingleBy c word out r (Refused why) after = after ≡ out
+-- the packed word is mended
+abbrev pub MendsPacked : Held → List ℕ → DecodedPacked → Type 0
+MendsPacked h words r = Mended (code_of h) (word_of h words) (replicate 512 0) r.told (bits512 r.bits)
 
-abbrev pub Single : Code → List ℕ → List ℕ → DecodedWord → List ℕ → Type 0
-Single c word out r after = SingleBy c word out r r.answer after
+-- a first try: what it answers is the answer; where it has none, the second has to say
+abbrev pub Single : Held → List ℕ → Option DecodedPacked → Type 0
+Single h words (Some r) = MendsPacked h words r
+Single h words None = Unit
 
--- the copy is written and what was flipped there answered exactly where it is a codeword
-abbrev pub Settles : Code → List ℕ → List ℕ → Flips → DecodedWord → List ℕ → Type 0
-Settles c copy out flips r after =
-    (Codeword c copy × (r ≡ record { answer = Accepted flips.count; places = flips.places }) × (after ≡ copy ++ drop c.n out))
-    ⊎ ((Codeword c copy → ⊥) × (r ≡ no_word (Uncorrectable 0)) × (after ≡ out))
+-- a second: where it answers nothing, no codeword lies within t
+abbrev pub Several : Held → List ℕ → Option DecodedPacked → Type 0
+Several h words (Some r) = MendsPacked h words r
+Several h words None = (v : List ℕ) → Within (code_of h) (word_of h words) v → ⊥
+
+-- the copy is answered, with what was flipped there, exactly where it is a codeword
+abbrev pub Settles : Held → Flips → List ℕ → Option DecodedPacked → Type 0
+Settles h flips copy (Some r) =
+    Codeword (code_of h) (word_of h copy) × (r ≡ record { told = record { answer = Ok flips.count; places = flips.places }; bits = copy })
+Settles h flips copy None = Codeword (code_of h) (word_of h copy) → ⊥

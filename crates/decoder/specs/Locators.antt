@@ -5,7 +5,6 @@ use Rattle.std.specs.Prelude.{◌≡◌, ◌≢◌, List, ℕ, suc, ◌+◌, ◌
 use Rattle.algebra.proofs.Powers.{pow}
 use Rattle.algebra.proofs.Polynomials.{ev}
 use Rattle.algebra.proofs.Newtons.{Paired}
-use Rattle.field.specs.Tables.{log_table, power_table}
 use Rattle.field.proofs.Elements.{gf512, element_of}
 use Rattle.field.proofs.Values.{a, series}
 use Rattle.answers.specs.Answers.{most_places, listed}
@@ -13,11 +12,6 @@ use Rattle.bits.specs.Words.{differ}
 use Rattle.bits.specs.Places.{places}
 use Rattle.decoder.specs.declared.locator.State.{State}
 use Rattle.decoder.specs.declared.search.Flips.{Flips}
-
--- the lent tables are the field's
-pub record Lent (logs powers : List ℕ) : Type 0 where
-  pub logs_are : logs ≡ log_table
-  pub powers_are : powers ≡ power_table
 
 -- the entries behind `last` are 0
 abbrev pub Ends : List ℕ → ℕ → Type 0

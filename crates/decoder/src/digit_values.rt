@@ -1,6 +1,6 @@
 // The table of specs/Syndromes.antt: what four digits v are worth at a^(2 l + 1), for v and l below 16, at 16 v + l; and at 256 more, with four zeros
 // behind them.
-pub(crate) const DIGIT_VALUES: [u16; 512] = [
+pub(crate) static DIGIT_VALUES: [u16; 512] = [
     0, 0, 0, 0, 0, 0, 0, 0, 0, 0, 0, 0, 0, 0, 0, 0, 1, 1, 1, 1, 1, 1, 1, 1, 1, 1, 1, 1, 1, 1, 1, 1,
     2, 8, 32, 128, 17, 68, 272, 98, 392, 19, 76, 304, 226, 409, 87, 348, 3, 9, 33, 129, 16, 69,
     273, 99, 393, 18, 77, 305, 227, 408, 86, 349, 4, 64, 34, 49, 257, 152, 452, 174, 181, 261, 216,

@@ -8,7 +8,7 @@ ghost use Rattle.bch.specs.Promise.{Decodes};
 ghost use Rattle.bch.specs.Held.{code_of, Fitting};
 
 use crate::mending;
-use answers::{Decoded, DecodedWord, PLACES};
+use answers::{DecodedWord, PLACES};
 use bch::code::Held;
 
 // The word's answer, and the codeword written where there is one.
@@ -18,14 +18,12 @@ pub(crate) fn answer(c: Held, word: &[u8], out: &mut [u8]) -> DecodedWord
 {
     let mended = mending::answer(c, packed::pack(word));
     let told = mended.told;
-    let answer = told.answer;
-    match answer {
-        Decoded::Accepted(count) => {
-            let places = told.places;
-            write(word, count, &places, out);
+    match told.answer {
+        Ok(count) => {
+            write(word, count, &told.places, out);
             told
         }
-        Decoded::Refused(_) => told,
+        Err(_) => told,
     }
 }
 
@@ -36,10 +34,9 @@ fn write(word: &[u8], count: usize, places: &[u16; PLACES], out: &mut [u8])
     ensures { out.new ≡ flipped_at (take count places.now) word.now ++ drop (length word.now) out.old }
 {
     bits::put_front(word, out);
-    let mut j: usize = 0;
-    while j < count {
-        let p = places[j] as usize;
+    // By index: what is known of the loop counts the places that are flipped.
+    for j in 0..count {
+        let p = usize::from(places[j]);
         out[p] = 1 - out[p];
-        j += 1;
     }
 }

@@ -25,11 +25,9 @@ mod search;
 mod syndrome;
 
 use answers::{DecodedWord, Refusal};
-use bch::checks::Verdict;
-use bch::code::Numbered;
 use bch::{checks, code};
 
-// What decode answers of a packed word, and the codeword, packed; in a refusal no bit but 0.
+// What decode answers of a packed word, and the codeword, packed; in a refusal no bit but 0 (document 02, item 10), so the bits stand beside the answer.
 #[derive(Clone, Copy)]
 pub struct DecodedPacked {
     pub told: DecodedWord,
@@ -40,23 +38,19 @@ pub struct DecodedPacked {
 pub fn decode(code: u8, word: &[u8], out: &mut [u8]) -> DecodedWord
     ensures { Decoding code word.now out.old result out.new }
 {
-    let verdict = checks::judged(code, true, word, out);
-    match verdict {
-        Verdict::Fails(why) => answers::no_word(why),
-        Verdict::Passes(c) => elements::answer(c, word, out),
+    match checks::judged(code, true, word, out) {
+        Ok(c) => elements::answer(c, word, out),
+        Err(why) => answers::no_word(why),
     }
 }
 
-// The same for a word that is packed, and the codeword packed. The word is the first n of the 512 bits; those behind are not looked at.
+// The same for a word that is packed, and the codeword packed: the crates above have both kinds of word. The word is the first n of the 512 bits; those
+// behind are not looked at.
 pub fn decode_packed(code: u8, words: [u64; 8]) -> DecodedPacked
     ensures { DecodingPacked code words result.told result.bits }
 {
-    let numbered = code::of_number(code);
-    match numbered {
-        Numbered::Known(c) => {
-            let n = c.n;
-            mending::answer(c, packed::first(&words, n))
-        }
-        Numbered::Unknown => mending::nothing(Refusal::Unknown),
+    match code::of_number(code) {
+        Some(c) => mending::answer(c, packed::first(&words, c.n)),
+        None => mending::nothing(Refusal::Unknown),
     }
 }

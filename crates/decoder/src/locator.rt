@@ -7,8 +7,9 @@ ghost use Rattle.std.specs.Prelude.{◌≡◌, List, ◌∷◌, ℕ, ◌+◌, �
 ghost use Rattle.algebra.proofs.Series.{conv, mix};
 ghost use Rattle.field.proofs.Elements.{gf512, element_of};
 ghost use Rattle.field.proofs.Values.{series};
-ghost use Rattle.decoder.specs.Locators.{Lent, Ends, Squared, After};
+ghost use Rattle.decoder.specs.Locators.{Ends, Squared, After};
 
+// The length is that of the recurrence, and may be greater than the polynomials' degrees: it does not count their coefficients.
 #[derive(Clone, Copy)]
 pub struct State {
     pub locator: [u16; 34],
@@ -33,48 +34,25 @@ fn start() -> State
 }
 
 // The sum of locator[j] s[r - j] over j up to r: the terms beyond the locator's length are 0.
-fn discrepancy(
-    logs: &[u16; 512],
-    powers: &[u16; 1022],
-    s: &[u16; 32],
-    locator: &[u16; 34],
-    r: usize,
-    len: usize,
-) -> u16
-    requires { Lent logs.now powers.now × (r < 32) × (len ≤ r) × Ends locator.now len }
-    ensures { (element_of result ≡ conv gf512 (series locator.now) (series s.now) r) × (result < 512) }
+fn discrepancy(s: &[u16; 32], state: &State, r: usize) -> u16
+    requires { (r < 32) × (state.now.len ≤ r) × Ends state.now.locator state.now.len }
+    ensures { (element_of result ≡ conv gf512 (series state.now.locator) (series s.now) r) × (result < 512) }
 {
     let mut d: u16 = 0;
-    let mut j: usize = 0;
-    while j <= len {
-        d = d ^ field::product_from(logs, powers, locator[j], s[r - j]);
-        j += 1;
+    for j in 0..state.len + 1 {
+        d ^= field::product(state.locator[j], s[r - j]);
     }
     d
 }
 
 // b locator + d other, coefficient by coefficient up to `last`: behind it both are 0.
-fn mixed(
-    logs: &[u16; 512],
-    powers: &[u16; 1022],
-    locator: &[u16; 34],
-    other: &[u16; 34],
-    b: u16,
-    d: u16,
-    last: usize,
-) -> [u16; 34]
-    requires { Lent logs.now powers.now × (last < 34) × Ends locator.now last × Ends other.now last }
-    ensures { (i : ℕ) → series result i ≡ mix gf512 (element_of b) (element_of d) (series locator.now) (series other.now) i }
+fn mixed(state: &State, d: u16, last: usize) -> [u16; 34]
+    requires { (last < 34) × Ends state.now.locator last × Ends state.now.other last }
+    ensures { (i : ℕ) → series result i ≡ mix gf512 (element_of state.now.b) (element_of d) (series state.now.locator) (series state.now.other) i }
 {
-    // As slices, whose length the proof knows.
-    let f: &[u16] = locator;
-    let g: &[u16] = other;
     let mut out = [0u16; 34];
-    let mut i: usize = 0;
-    while i <= last {
-        out[i] = field::product_from(logs, powers, b, f[i])
-            ^ field::product_from(logs, powers, d, g[i]);
-        i += 1;
+    for i in 0..last + 1 {
+        out[i] = field::product(state.b, state.locator[i]) ^ field::product(d, state.other[i]);
     }
     out
 }
@@ -83,63 +61,51 @@ fn mixed(
 fn moved(p: &[u16; 34]) -> [u16; 34]
     ensures { result ≡ 0 ∷ 0 ∷ take 32 p.now }
 {
-    // As a slice, whose length the proof knows.
-    let entries: &[u16] = p;
     let mut out = [0u16; 34];
-    let mut i: usize = 2;
-    while i < 34 {
-        out[i] = entries[i - 2];
-        i += 1;
+    // A copy by copy_from_slice was slower: it is read back at once, by other pieces than it was written by.
+    for i in 2..34 {
+        out[i] = p[i - 2];
     }
     out
 }
 
 // The pair m of syndromes taken in, s[2 m] and s[2 m + 1].
-fn step(logs: &[u16; 512], powers: &[u16; 1022], s: &[u16; 32], state: State, m: usize) -> State
-    requires { Lent logs.now powers.now × (m < 16) × After s.now m state × Squared s.now (m + 1) }
+fn step(s: &[u16; 32], state: State, m: usize) -> State
+    requires { (m < 16) × After s.now m state × Squared s.now (m + 1) }
     ensures { After s.now (m + 1) result }
 {
     let r = m + m;
-    let locator = state.locator;
-    let other = state.other;
-    let len = state.len;
-    let b = state.b;
-    let d = discrepancy(logs, powers, s, &locator, r, len);
+    let d = discrepancy(s, &state, r);
     if d == 0 {
         return State {
-            locator,
-            other: moved(&other),
-            len,
-            b,
+            other: moved(&state.other),
+            ..state
         };
     }
-    if r < len + len {
+    if r < state.len + state.len {
         return State {
-            locator: mixed(logs, powers, &locator, &other, b, d, len),
-            other: moved(&other),
-            len,
-            b,
+            locator: mixed(&state, d, state.len),
+            other: moved(&state.other),
+            ..state
         };
     }
-    let longer = r + 1 - len;
+    let longer = r + 1 - state.len;
     State {
-        locator: mixed(logs, powers, &locator, &other, b, d, longer),
-        other: moved(&locator),
+        locator: mixed(&state, d, longer),
+        other: moved(&state.locator),
         len: longer,
         b: d,
     }
 }
 
 // The state after the first t pairs of syndromes.
-pub(crate) fn shortest(logs: &[u16; 512], powers: &[u16; 1022], s: &[u16; 32], t: usize) -> State
-    requires { Lent logs.now powers.now × (t ≤ 16) × Squared s.now t }
+pub(crate) fn shortest(s: &[u16; 32], t: usize) -> State
+    requires { (t ≤ 16) × Squared s.now t }
     ensures { After s.now t result }
 {
     let mut state = start();
-    let mut m: usize = 0;
-    while m < t {
-        state = step(logs, powers, s, state, m);
-        m += 1;
+    for m in 0..t {
+        state = step(s, state, m);
     }
     state
 }

@@ -4,12 +4,12 @@ use mathlib.Core.Path.{◌≡◌}
 use mathlib.Core.List.{List}
 use Prim.Native.Nat.{ℕ}
 use lib.ListN.{length, take, replicate}
-use Rattle.answers.specs.declared.Written.{Written}
 use Rattle.bch.specs.Codes.{named}
 use Rattle.bch.proofs.Once.{encode_once}
 use Rattle.packed.specs.Packed.{bits512}
 use Rattle.packed.proofs.Once.{Wide, words_once}
 use Rattle.encoder.specs.Promise.{information_by, EncodingPacked}
+use Rattle.answers.specs.Answers.{Written}
 
 pub encode_packed_once : (c : ℕ) (words : List ℕ) (a b : Written) (u v : List ℕ) → length u ≡ 8 → length v ≡ 8 → Wide u → Wide v
     → EncodingPacked c words a u → EncodingPacked c words b v → (a ≡ b) × (u ≡ v)

@@ -8,7 +8,6 @@ use lib.Bits.{bit_xor, xor_zero_r}
 use lib.ListN.{length, take, drop, replicate, length-append, length-replicate, replicate-append-replicate}
 use lib.Seq.{length-take-le, take_at, drop_at}
 use Rattle.answers.specs.declared.Refusal.TheVariants.{Unknown}
-use Rattle.answers.specs.declared.Written.TheVariants.{Accepted, Refused}
 use Rattle.bits.specs.Words.{Bits, digits}
 use Rattle.bits.specs.Remainders.{remainder}
 use Rattle.bits.proofs.Digits.{bits_take, digits_bits, length_digits, none_bad}
@@ -31,6 +30,7 @@ use Rattle.remainders.proofs.Leftovers.{leftover_by_lem}
 use Rattle.remainders.proofs.Windows.{at_top_zeros}
 use Rattle.encoder.specs.Promise.{EncodingPacked}
 use Rattle.encoder.proofs.Behind.{eight_of, register_packed, added_behind}
+use Rattle.std.specs.Prelude.{Ok, Err}
 
 module _ {h : Held} (sound : Sound h) where
   information_low : h.k ≤ 512
@@ -56,23 +56,21 @@ zeros n = replicate n 0
 
 -- information with zeros behind
 module _ {h : Held} (sound : Sound h) (words : List ℕ) (clear : bits512 words ≡ padded (take h.k (bits512 words))) where
-  information : List ℕ
+  abbrev information : List ℕ
   information = take h.k (bits512 words)
 
   all_there : length information ≡ h.k
-  unfolding information
   all_there = information_long sound words
 
   none_behind : at_top (take 192 (drop h.k (bits512 words))) ≡ 0
-  unfolding information at_top
+  unfolding at_top
   none_behind =
       let j = 512 - length information in
       ap (λ (l : List ℕ). at_top (take 192 (drop h.k l))) clear
       ∙ ap (λ (l : List ℕ). at_top (take 192 l)) (drop_at information (zeros j) h.k all_there)
       ∙ ap at_top (take-zeros 192 j) ∙ at_top_zeros [] (min 192 j)
 
-  left : {table : List ℕ} → Remainders (whole h.generator) table → leftover_by table h.k words ≡ remainder 192 (whole h.generator) information
-  unfolding information
+  pub left : {table : List ℕ} → Remainders (whole h.generator) table → leftover_by table h.k words ≡ remainder 192 (whole h.generator) information
   left {table} rule =
       let x = remainder 192 (whole h.generator) information in
       leftover_by_lem (whole h.generator) table words h.k rule (degree_192 sound) sound.bytes (omega (arith, sound.rooted.order, sound.short))
@@ -82,22 +80,22 @@ module _ {h : Held} (sound : Sound h) (words : List ℕ) (clear : bits512 words 
   check : List ℕ
   check = digits (h.n - h.k) (remainder (h.n - h.k) (code_of h).generator information)
 
-  check_top : {table : List ℕ} → Remainders (whole h.generator) table → leftover_by table h.k words ≡ at_top check
-  unfolding check information
-  check_top rule =
-      left rule ∙ scaled sound information
+  check_top : remainder 192 (whole h.generator) information ≡ at_top check
+  unfolding check
+  check_top =
+      scaled sound information
       ∙ sym (at_top-digits (h.n - h.k) _ sound.narrow
       (remainder-lt (h.n - h.k) (code_of h).generator sound.rooted.degree information (information_bits sound words)))
 
   -- they are put behind the information
-  pub codeword_packed : {table : List ℕ} → Remainders (whole h.generator) table → (high mid low : ℕ) → high < 2 ^ 64 → mid < 2 ^ 64 → low < 2 ^ 64
-      → joined (2 ^ 64) high mid low ≡ leftover_by table h.k words
+  pub codeword_packed : (high mid low : ℕ) → high < 2 ^ 64 → mid < 2 ^ 64 → low < 2 ^ 64
+      → joined (2 ^ 64) high mid low ≡ remainder 192 (whole h.generator) (take h.k (bits512 words))
       → (moved out : List ℕ) → bits512 moved ≡ take 512 (replicate h.k 0 ++ bits512 (eight_of high mid low))
       → bits512 out ≡ zip_with bit_xor (bits512 words) (bits512 moved) → bits512 out ≡ padded (encoded (code_of h) (take h.k (bits512 words)))
-  unfolding encoded check information
-  codeword_packed rule high mid low kh km kl e moved out em eo =
+  unfolding encoded check
+  codeword_packed high mid low kh km kl e moved out em eo =
       let d = length_digits (h.n - h.k) (remainder (h.n - h.k) (code_of h).generator information) in
-      let top = register_packed high mid low kh km kl check (digits_bits _ _) (omega (arith, sound.narrow)) (e ∙ check_top rule) in
+      let top = register_packed high mid low kh km kl check (digits_bits _ _) (omega (arith, sound.narrow)) (e ∙ check_top) in
       let room : length information + length check ≤ 512 = omega (arith, all_there, sound.rooted.order, sound.short) in
       eo ∙ ap₂ (zip_with bit_xor) clear
       (em ∙ ap₂ (λ (k : ℕ) (l : List ℕ). take 512 (zeros k ++ l)) (sym all_there) top) ∙ added_behind information check room
@@ -124,16 +122,16 @@ module _ {h : Held} (sound : Sound h) (words first : List ℕ) (e : bits512 firs
       ap (λ (k : ℕ). v ++ zeros (512 - k)) long ∙ ap (λ (l : List ℕ). v ++ l) (sym cut)
 
   pub first_encoded : (number : ℕ) → named number ≡ known (code_of h) → (out : List ℕ) → bits512 out ≡ padded (encoded (code_of h) (take h.k (bits512 first)))
-      → EncodingPacked number words Accepted out
+      → EncodingPacked number words (Ok tt) out
   first_encoded number code out eo =
       let m = take h.k (bits512 words) in
       let long = information_long sound words in
       let written = eo ∙ ap (λ (l : List ℕ). padded (encoded (code_of h) l)) same ∙ as_written (encoded (code_of h) m) (encoded_long sound m long) in
       rw code
-      (all_pass (λ k. Encodes k m (zeros 512) Accepted (bits512 out)) (λ d. d.k) m (zeros 512) (code_of h) long
+      (all_pass (λ k. Encodes k m (zeros 512) (Ok tt) (bits512 out)) (λ d. d.k) m (zeros 512) (code_of h) long
       (omega (arith, sound.short, length-replicate {A = ℕ} 512 0)) (none_bad m (information_bits sound words)) (refl, written))
 
 -- there is no such code
-pub unknown_encoded : (number : ℕ) → named number ≡ unknown → (words : List ℕ) → EncodingPacked number words (Refused Unknown) (replicate 8 0)
+pub unknown_encoded : (number : ℕ) → named number ≡ unknown → (words : List ℕ) → EncodingPacked number words (Err Unknown) (replicate 8 0)
 unfolding bits512 bits_from digits
 unknown_encoded number code words = rw code (refl, refl)

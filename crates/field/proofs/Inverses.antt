@@ -2,7 +2,7 @@
 -- Assumes nothing.
 use mathlib.Core.Path.{◌≡◌, refl, sym, ap, ap₂, ◌∙◌}
 use mathlib.Core.Logic.{◌≢◌, ◌⊎◌, inl, inr}
-use Prim.Native.Nat.{ℕ, zero, suc, ◌+◌, ◌-◌, ◌*◌, ◌≤◌, ◌<◌, min}
+use Prim.Native.Nat.{ℕ, zero, suc, ◌+◌, ◌-◌, ◌*◌, ◌<◌, min}
 use native.Mathlib.Decide.{ℕ_discrete}
 use native.Mathlib.Nat.{mod-lt}
 use native.Mathlib.Omega.{arith}
@@ -12,7 +12,7 @@ use Rattle.field.specs.Field.{element, power, product, raised, inverse}
 use Rattle.field.specs.Tables.{power_table}
 use Rattle.field.proofs.Products.{product_lt, product-element, product-element_left, zero-product}
 use Rattle.field.proofs.Powers.{power_0, product-power, power_again, power-ne_0, power_table_at}
-use Rattle.field.proofs.Logarithms.{log, log_0, log-lt, power-log, product-log}
+use Rattle.field.proofs.Logarithms.{log, log-lt, power-log, product-log}
 
 raised-element : (x n : ℕ) → raised (element x) n ≡ raised x n
 unfolding raised
@@ -29,14 +29,15 @@ unfolding inverse raised
 inverse_0 = zero-product (raised 0 509)
 
 -- the logarithms of an element and its inverse add up to 511
-inverse-log : (x : ℕ) → x ≢ 0 → x < 512 → inverse x ≡ power (511 - log x)
+inverse-power : (i : ℕ) → i < 511 → inverse (power i) ≡ power (511 - i)
 unfolding inverse
-inverse-log x z h =
-    let l : log x < 511 = log-lt x z h in
-    let e : 510 * log x + 511 ≡ log x * 511 + (511 - log x) = omega arith in
-    let e' : 510 * log x + 511 ≡ 1 * 511 + 510 * log x = omega arith in
-    ap (λ (y : ℕ). raised y 510) (sym (power-log x z h)) ∙ raised-power (log x) 510
-    ∙ sym (power_again 1 (510 * log x)) ∙ ap power (sym e' ∙ e) ∙ power_again (log x) (511 - log x)
+inverse-power i l =
+    let e : 510 * i + 511 ≡ i * 511 + (511 - i) = omega arith in
+    let e' : 510 * i + 511 ≡ 1 * 511 + 510 * i = omega arith in
+    raised-power i 510 ∙ sym (power_again 1 (510 * i)) ∙ ap power (sym e' ∙ e) ∙ power_again i (511 - i)
+
+inverse-log : (x : ℕ) → x ≢ 0 → x < 512 → inverse x ≡ power (511 - log x)
+inverse-log x z h = ap inverse (sym (power-log x z h)) ∙ inverse-power (log x) (log-lt x z h)
 
 inverse-element : (x : ℕ) → inverse (element x) ≡ inverse x
 unfolding inverse
@@ -66,20 +67,12 @@ no_zero_divisors x y e = go (ℕ_discrete (element x) 0) (ℕ_discrete (element 
         absurd (power-ne_0 (log (element x) + log (element y))
         (sym (product-log (element x) (element y) zx (mod-lt x (lit< tt)) zy (mod-lt y (lit< tt))) ∙ product-element x y ∙ e))
 
--- ---- the inverse by the tables
+-- ---- the inverse by the logarithm
 
-pub inverse_none : (x : ℕ) → 511 < log (element x) → inverse x ≡ 0
-inverse_none x l = sym (inverse-element x) ∙ go (ℕ_discrete (element x) 0)
-  where
-    go : Dec (element x ≡ 0) → inverse (element x) ≡ 0
-    go (yes z) = rw z inverse_0
-    go (no z) = let h = log-lt (element x) z (mod-lt x (lit< tt)) in absurd (omega arith)
+pub inverse_none : (x : ℕ) → element x ≡ 0 → inverse x ≡ 0
+inverse_none x z = sym (inverse-element x) ∙ rw z inverse_0
 
-pub inverse_some : (x : ℕ) → log (element x) ≤ 511 → inverse x ≡ get_or power_table (min (511 - log (element x)) 1021) 0
-inverse_some x l = sym (inverse-element x) ∙ inverse-log (element x) nonzero (mod-lt x (lit< tt)) ∙ sym at
-  where
-    nonzero : element x ≢ 0
-    nonzero z = let h = rw (z, log_0) at l in omega arith
-
-    at : get_or power_table (min (511 - log (element x)) 1021) 0 ≡ power (511 - log (element x))
-    at = let e : min (511 - log (element x)) 1021 ≡ 511 - log (element x) = omega arith in rw e (power_table_at (511 - log (element x)) (omega arith))
+pub inverse_some : (x i : ℕ) → i < 511 → power i ≡ element x → inverse x ≡ get_or power_table (min (511 - i) 1021) 0
+inverse_some x i l is =
+    let e : min (511 - i) 1021 ≡ 511 - i = omega arith in
+    sym (inverse-element x) ∙ ap inverse (sym is) ∙ inverse-power i l ∙ rw e (sym (power_table_at (511 - i) (omega arith)))

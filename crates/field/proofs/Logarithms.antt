@@ -3,7 +3,7 @@
 use mathlib.Core.Path.{◌≡◌, refl, sym, ap, ap₂, ◌∙◌, subst}
 use mathlib.Core.Bool.{Bool, not, ◌&&◌}
 use mathlib.Core.Logic.{◌≢◌}
-use Prim.Native.Nat.{ℕ, zero, suc, ◌+◌, ◌-◌, ◌*◌, ◌<◌, min}
+use Prim.Native.Nat.{ℕ, zero, suc, ◌+◌, ◌-◌, ◌*◌, ◌≤◌, ◌<◌, min}
 use native.Mathlib.Nat.{mod-lt}
 use native.Mathlib.Decide.{ℕ_discrete, dec_lt}
 use native.Mathlib.Omega.{arith}
@@ -12,7 +12,7 @@ use lib.ListN.{length, get_or}
 use Rattle.ground.proofs.Tests.{both, all, all_at, every, every_at}
 use Rattle.field.specs.Field.{element, shifted, power, product}
 use Rattle.field.specs.Tables.{powers_from, place_from, listed, log_table, power_table, product_from}
-use Rattle.field.proofs.Products.{product-element, product_0, zero-product}
+use Rattle.field.proofs.Products.{product-element, product-element_left, product_0, zero-product}
 use Rattle.field.proofs.Powers.{power_511, power_again, powers_at, product-power, power_table_at, power_table_last}
 
 unfoldable pub log : ℕ → ℕ
@@ -54,6 +54,23 @@ log-lt x z h = (log_is x z h).0
 
 pub power-log : (x : ℕ) → x ≢ 0 → x < 512 → power (log x) ≡ x
 power-log x z h = (log_is x z h).1
+
+pub log_none : (x : ℕ) → x < 512 → 511 ≤ log x → x ≡ 0
+log_none x h l = go (ℕ_discrete x 0)
+  where
+    go : Dec (x ≡ 0) → x ≡ 0
+    go (yes z) = z
+    go (no z) = absurd (omega (arith, log-lt x z h))
+
+pub log_some : (x : ℕ) → x < 512 → log x < 511 → power (log x) ≡ x
+log_some x h l = power-log x (λ z. omega (arith, rw (z, log_0) at l)) h
+
+pub log-le : (x : ℕ) → x < 512 → log x ≤ 1021
+log-le x h = go (ℕ_discrete x 0)
+  where
+    go : Dec (x ≡ 0) → log x ≤ 1021
+    go (yes z) = rw (z, log_0) (omega arith)
+    go (no z) = omega (arith, log-lt x z h)
 
 -- ---- the powers below 511 differ
 
@@ -109,3 +126,14 @@ unfolding product_from log joined
 product_from_lem x y =
     joined-product (element x) (element y) (mod-lt x (lit< tt)) (mod-lt y (lit< tt)) (ℕ_discrete (element x) 0) (ℕ_discrete (element y) 0)
     ∙ product-element x y
+
+-- and one look into each gives a product with a small power
+pub times_power_lem : (x e : ℕ) → e < 511 → get_or power_table (min (log (element x) + e) 1021) 0 ≡ product x (power e)
+unfolding joined
+times_power_lem x e low = go (ℕ_discrete (element x) 0) ∙ product-element_left x (power e)
+  where
+    go : Dec (element x ≡ 0) → joined (log (element x)) e ≡ product (element x) (power e)
+    go (yes z) = rw (z, log_0, zero-product) (joined_0 1021 e (omega arith))
+    go (no z) =
+        joined_log (log (element x)) e (log-lt (element x) z (mod-lt x (lit< tt))) low ∙ sym (product-power (log (element x)) e)
+        ∙ ap (λ (u : ℕ). product u (power e)) (power-log (element x) z (mod-lt x (lit< tt)))

@@ -7,7 +7,7 @@ use Prim.Native.Nat.{ℕ, zero, suc, ◌+◌, ◌*◌, ◌/◌, ◌%◌, ◌<◌
 use native.Mathlib.Nat.{zero-add, suc-add, add-suc, add-zero, le_of_suc-le-suc, not-suc-le-zero, mod-eq_of_lt, div-add-mod'}
 use native.Mathlib.Omega.{arith}
 use lib.Dec.{lit<}
-use lib.ListN.{length, get_or, get_or-append}
+use lib.ListN.{length, get_or, get_or-append, length-append}
 use lib.Seq.{get_or_at}
 use Rattle.field.specs.Field.{shifted, power, product}
 use Rattle.field.specs.Tables.{powers_from, power_table}
@@ -70,6 +70,10 @@ powers_from-length (suc n) x = ap suc (powers_from-length n (shifted x))
 pub powers_at : (n k : ℕ) → k < n → get_or (powers_from n 1) k 0 ≡ power k
 unfolding power
 powers_at n k h = powers_from_at n 0 k h ∙ ap power (zero-add k)
+
+pub power_table-length : length power_table ≡ 1022
+unfolding power_table
+power_table-length = length-append (powers_from 1021 1) (0 ∷ []) ∙ ap (λ (n : ℕ). n + 1) (powers_from-length 1021 1)
 
 pub power_table_at : (k : ℕ) → k < 1021 → get_or power_table k 0 ≡ power k
 unfolding power_table

@@ -1,8 +1,8 @@
 -- The two tables from which a product is read: the logarithm of each element, and the power at each sum of two logarithms.
 -- 0 has no logarithm. Its entry, 1021, is above every sum of two logarithms, and there the table of powers has 0.
 -- Assumes nothing.
-use Rattle.std.specs.Prelude.{true, false, List, [], ◌∷◌, ◌++◌, ℕ, zero, suc, ◌+◌, min, eqb, get_or}
-use Rattle.field.specs.Field.{element, shifted}
+use Rattle.std.specs.Prelude.{◌≡◌, true, false, Option, Some, None, List, [], ◌∷◌, ◌++◌, ℕ, zero, suc, ◌+◌, ◌<◌, min, eqb, get_or}
+use Rattle.field.specs.Field.{element, shifted, power}
 
 -- n entries, the first x, each a times the one before
 unfoldable pub powers_from : ℕ → ℕ → List ℕ
@@ -30,3 +30,8 @@ log_table = let ps = powers_from 511 1 in listed 512 0 (λ x. place_from x 0 ps)
 -- what two tables give for a product
 unfoldable pub product_from : List ℕ → List ℕ → ℕ → ℕ → ℕ
 product_from logs powers x y = get_or powers (min (get_or logs (element x) 0 + get_or logs (element y) 0) 1021) 0
+
+-- the logarithm of an element is the i below 511 with a^i equal to it; 0 has none
+abbrev pub IsLogarithm : ℕ → Option ℕ → Type 0
+IsLogarithm x None = element x ≡ 0
+IsLogarithm x (Some i) = (i < 511) × (power i ≡ element x)

@@ -1,14 +1,15 @@
-// GF(512), modulo x^9 + x^4 + 1: sum, product, inverse and powers of a. An element is a number below 512, whose binary digits are the
-// coefficients; a is 2. Every number may come in: it stands for its nine low digits.
-// A product is read from two tables, of logarithms and of powers. A loop can take them once, by `log_table` and `power_table`, and lend
-// them to `product_from`.
+// GF(512), modulo x^9 + x^4 + 1: sum, product, inverse, powers of a and logarithms. An element is a number below 512, whose binary digits
+// are the coefficients; a is 2. Every number may come in: it stands for its nine low digits.
+// A product is read from two tables, of logarithms and of powers, where they stand.
 #![tactic(auto)]
 
-ghost use Rattle.std.specs.Prelude.{◌≡◌, ◌<◌, ◌≤◌, ◌+◌, ◌%◌, min, get_or};
+ghost use Rattle.std.specs.Prelude.{◌≡◌, ◌<◌, ◌≤◌, ◌%◌, get_or};
 ghost use Rattle.field.specs.Field.{sum, product, inverse, power};
-ghost use Rattle.field.specs.Tables.{log_table, power_table, product_from};
+ghost use Rattle.field.specs.Tables.{log_table, power_table, IsLogarithm};
 
 mod tables;
+
+use tables::{LOGARITHMS, POWERS};
 
 // x + y.
 pub fn sum(x: u16, y: u16) -> u16
@@ -21,77 +22,52 @@ pub fn sum(x: u16, y: u16) -> u16
 pub fn product(x: u16, y: u16) -> u16
     ensures { result ≡ product x y }
 {
-    let logs = log_table();
-    let powers = power_table();
-    product_from(&logs, &powers, x, y)
+    power_at(log_at(x) + log_at(y))
 }
 
 // 1 / x; 0 for x = 0.
 pub fn inverse(x: u16) -> u16
     ensures { result ≡ inverse x }
 {
-    let logs = log_table();
-    let i = logarithm(&logs, x);
-    if 511 < i {
-        return 0;
+    match logarithm(x) {
+        Some(i) => power_at(511 - i),
+        None => 0,
     }
-    let powers = power_table();
-    power_at(&powers, 511 - i)
 }
 
 // a^i.
 pub fn power(i: u64) -> u16
     ensures { result ≡ power i }
 {
-    let powers = power_table();
-    power_at(&powers, (i % 511) as usize)
+    power_at((i % 511) as usize)
 }
 
-// The table of logarithms, to lend to `product_from`.
-pub fn log_table() -> [u16; 512]
-    ensures { result ≡ log_table }
+// The i below 511 with a^i equal to x; 0 has none.
+pub fn logarithm(x: u16) -> Option<usize>
+    ensures { IsLogarithm x result }
 {
-    tables::LOGARITHMS
+    let i = log_at(x);
+    if i < 511 { Some(i) } else { None }
 }
 
-// The table of powers, to lend to `product_from`.
-pub fn power_table() -> [u16; 1022]
-    ensures { result ≡ power_table }
+// x a^e, with one entry of each table. The exponent is small, so that its sum with a logarithm is an entry too.
+pub fn times_power(x: u16, e: u8) -> u16
+    ensures { result ≡ product x (power e) }
 {
-    tables::POWERS
+    power_at(log_at(x) + usize::from(e))
 }
 
-// What the lent tables give for x y: with ours, the product.
-pub fn product_from(logs: &[u16; 512], powers: &[u16; 1022], x: u16, y: u16) -> u16
-    ensures { result ≡ product_from logs.now powers.now x y }
+// The entry of x in the table of logarithms.
+fn log_at(x: u16) -> usize
+    ensures { (result ≡ get_or LOGARITHMS (x % 512) 0) × (result ≤ 1021) }
 {
-    power_at(powers, logarithm(logs, x) + logarithm(logs, y))
+    usize::from(LOGARITHMS[usize::from(x % 512)])
 }
 
-// The entry of x.
-fn logarithm(logs: &[u16; 512], x: u16) -> usize
-    ensures { (result ≡ get_or logs.now (x % 512) 0) × (result < 65536) }
+// The entry i of the table of powers.
+fn power_at(i: usize) -> u16
+    requires { i < 2043 }
+    ensures { result ≡ get_or POWERS i 0 }
 {
-    wide(logs[(x % 512) as usize])
-}
-
-// The entry i, or the last.
-fn power_at(powers: &[u16; 1022], i: usize) -> u16
-    ensures { result ≡ get_or powers.now (min i 1021) 0 }
-{
-    powers[least(i, 1021)]
-}
-
-// The lesser of i and j.
-fn least(i: usize, j: usize) -> usize
-    ensures { (result ≡ min i j) × (result ≤ j) }
-{
-    if i < j { i } else { j }
-}
-
-// x, as a place in a table is counted.
-fn wide(x: u16) -> usize
-    ensures { (result ≡ x) × (result < 65536) }
-{
-    x as usize
+    POWERS[i]
 }

@@ -59,7 +59,7 @@ one_more_set a x ws h =
 
 -- ---- machine words that are 0
 
-at_zeros : (m i : ℕ) → get_or (zeros m) i 0 ≡ 0
+pub at_zeros : (m i : ℕ) → get_or (zeros m) i 0 ≡ 0
 at_zeros zero i = refl
 at_zeros (suc m) zero = refl
 at_zeros (suc m) (suc i) = at_zeros m i

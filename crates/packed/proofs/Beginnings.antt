@@ -1,33 +1,24 @@
--- 512 bits copied to the front of 41 machine words that are 0, machine word after machine word.
+-- 512 bits at the front of 41 machine words, and zeros behind.
 -- Assumes nothing.
-use mathlib.Core.Path.{◌≡◌, refl, sym, ap, ap₂, ◌∙◌}
-use mathlib.Core.List.{List, ◌++◌}
-use Prim.Native.Nat.{ℕ, ◌+◌, ◌<◌}
-use native.Mathlib.Numerals.{add-one}
+use mathlib.Core.Path.{◌≡◌, refl, sym, ap₂, ◌∙◌}
+use mathlib.Core.List.{List, [], ◌∷◌, ◌++◌}
+use Prim.Native.Nat.{ℕ, zero, suc, ◌≤◌}
 use native.Mathlib.Omega.{arith}
-use lib.ListN.{length, get_or, set, replicate, length-set}
-use Rattle.bits.specs.Words.{digits}
+use lib.ListN.{length, get_or, replicate, get_or-eq_default}
 use Rattle.packed.specs.Packed.{bits_from, bits512}
-use Rattle.packed.proofs.Walks.{from_append, from_none, from_set_before}
-use Rattle.packed.proofs.Amid.{one_more, one_more_set, from_zeros}
+use Rattle.packed.proofs.Walks.{from_append, from_same}
+use Rattle.packed.proofs.Amid.{zeros, at_zeros, from_zeros}
 
--- so many are copied, and behind the eighth there are zeros
-abbrev pub Copied : List ℕ → List ℕ → ℕ → Type 0
-Copied front out w = (length out ≡ 41) × (bits_from w 0 out ≡ bits_from w 0 front) × (bits_from 33 8 out ≡ replicate 2112 0)
+zeros_behind : (v : List ℕ) (n i : ℕ) → get_or (v ++ zeros n) i 0 ≡ get_or v i 0
+zeros_behind [] n i = at_zeros n i
+zeros_behind (x ∷ v) n zero = refl
+zeros_behind (x ∷ v) n (suc i) = zeros_behind v n i
 
-pub copied_none : (front : List ℕ) → Copied front (replicate 41 0) 0
-copied_none front = (refl, from_none 0 (replicate 41 0) ∙ sym (from_none 0 front), from_zeros 41 33 8)
-
-module _ (front out : List ℕ) (w : ℕ) (c : Copied front out w) where
-  pub copied_more : w < 8 → Copied front (set out w (get_or front w 0)) (w + 1)
-  copied_more h =
-      let x = get_or front w 0 in
-      let inside : w < length out = omega (arith, c.0) in (
-        length-set out w x ∙ c.0,
-        rw add-one (one_more_set w x out inside ∙ ap (λ (l : List ℕ). l ++ digits 64 x) c.1 ∙ sym (one_more w front)),
-        from_set_before 33 8 w x out h ∙ c.2,
-      )
-
-  pub copied_all : w ≡ 8 → bits_from 41 0 out ≡ bits512 front ++ replicate 2112 0
-  unfolding bits512
-  copied_all e = from_append 8 33 0 out ∙ ap₂ ◌++◌ (ap (λ (n : ℕ). bits_from n 0 out) (sym e) ∙ c.1 ∙ ap (λ (n : ℕ). bits_from n 0 front) e) c.2
+pub begun : (front : List ℕ) → length front ≡ 8 → bits_from 41 0 (front ++ zeros 33) ≡ bits512 front ++ replicate 2112 0
+unfolding bits512
+begun front long =
+    let run = front ++ zeros 33 in
+    let none : (i : ℕ) → 8 ≤ i → get_or run i 0 ≡ get_or (zeros 41) i 0
+    = λ i h. zeros_behind front 33 i ∙ get_or-eq_default front 0 (omega arith) ∙ sym (at_zeros 41 i) in
+    from_append 8 33 0 run
+    ∙ ap₂ ◌++◌ (from_same 8 0 run front (λ i _. zeros_behind front 33 i)) (from_same 33 8 run (zeros 41) none ∙ from_zeros 41 33 8)

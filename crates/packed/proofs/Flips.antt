@@ -54,7 +54,7 @@ moved q h =
     let e : 63 ≡ 64 - suc q + q = omega arith in
     ap (λ (n : ℕ). 2 ^ n / 2 ^ q) e ∙ ap (λ (n : ℕ). n / 2 ^ q) (pow-add 2 (64 - suc q) q) ∙ shl-shr (2 ^ (64 - suc q)) q
 
-flipped_at : (ws : List ℕ) (p : ℕ) → length ws ≡ 8 → p < 512
+pub flipped_at : (ws : List ℕ) (p : ℕ) → length ws ≡ 8 → p < 512
     → bits512 (set ws (p / 64) (bit_xor (get_or ws (p / 64) 0) (0x8000000000000000 / 2 ^ (p % 64))))
     ≡ set (bits512 ws) p (1 - get_or (bits512 ws) p 0)
 flipped_at ws p long h =
@@ -73,20 +73,6 @@ flipped_at ws p long h =
     ∙ ap (λ (l : List ℕ). front ++ l) (sym (set-append_left (digits 64 x) back q y (omega (arith, length_digits 64 x))))
     ∙ sym (ap₂ (λ (l : List ℕ) (n : ℕ). set l n y) (around ws a ha) (place ws p) ∙ set-append-add front (digits 64 x ++ back) q y)
 
--- ---- as the code has it: eight machine words copied, and then one changed
-
-abbrev copied : List ℕ → List ℕ
-copied ws =
-    get_or ws 0 0 ∷ get_or ws 1 0 ∷ get_or ws 2 0 ∷ get_or ws 3 0 ∷ get_or ws 4 0 ∷ get_or ws 5 0 ∷ get_or ws 6 0 ∷ get_or ws 7 0 ∷ []
-
-bits_copied : (ws : List ℕ) → bits512 (copied ws) ≡ bits512 ws
-unfolding bits512 bits_from
-bits_copied ws = refl
-
-module _ (ws : List ℕ) (p : ℕ) where
-  pub copy_flipped : p < 512 → bits512 (set (copied ws) (p / 64) (bit_xor (get_or (copied ws) (p / 64) 0) (0x8000000000000000 / 2 ^ (p % 64))))
-      ≡ set (bits512 ws) p (1 - get_or (bits512 ws) p 0)
-  copy_flipped h = flipped_at (copied ws) p refl h ∙ ap (λ (l : List ℕ). set l p (1 - get_or l p 0)) (bits_copied ws)
-
-  pub copy_kept : 512 ≤ p → bits512 (copied ws) ≡ set (bits512 ws) p (1 - get_or (bits512 ws) p 0)
-  copy_kept h = bits_copied ws ∙ sym (set_out (bits512 ws) p (1 - get_or (bits512 ws) p 0) (omega (arith, length_512 ws)))
+-- no such place
+pub flipped_none : (ws : List ℕ) (p : ℕ) → 512 ≤ p → bits512 ws ≡ set (bits512 ws) p (1 - get_or (bits512 ws) p 0)
+flipped_none ws p h = sym (set_out (bits512 ws) p (1 - get_or (bits512 ws) p 0) (omega (arith, length_512 ws)))

@@ -9,7 +9,6 @@ pub mod Stores
 pub mod Places
 pub mod Downs
 pub mod Fronts
-pub mod Sides
 pub mod Runs
 pub mod Once
 pub mod Wordings

@@ -2,42 +2,38 @@
 -- Assumes nothing.
 use mathlib.Core.Path.{◌≡◌, refl, sym, ap, ap₂, ◌∙◌}
 use mathlib.Core.List.{List, [], ◌∷◌, ◌++◌, append-nil}
-use Prim.Native.Nat.{ℕ, zero, suc, ◌+◌, ◌-◌, ◌*◌, ◌%◌, ◌^◌, ◌≤◌, ◌<◌, min}
+use Prim.Native.Nat.{ℕ, zero, suc, ◌+◌, ◌-◌, ◌*◌, ◌/◌, ◌%◌, ◌^◌, ◌≤◌, ◌<◌, min}
 use native.Mathlib.Numerals.{add-one}
 use native.Mathlib.Omega.{arith}
 use lib.Bits.{bit_or}
 use lib.ListN.{length, get_or, set, take, drop, replicate, length-take, length-drop}
-use lib.Seq.{take_all, take-take, take-suc, take-nil, drop-nil, take-append-add, drop-append-add, length-take-le}
+use lib.Seq.{take_all, take-suc, length-take-le}
+use Rattle.std.specs.Int.{from_be_bytes, w64}
+use Rattle.std.specs.Simd.{first_chunks}
 use Rattle.bits.specs.Words.{digits}
-use Rattle.bits.specs.Bytes.{bits_of}
-use Rattle.bits.proofs.Digits.{length_digits}
+use Rattle.bits.specs.Bytes.{Bytes, bits_of}
 use Rattle.bits.proofs.Shifts.{digits-or, digits_shl}
 use Rattle.bits.proofs.Octets.{length-bits_of, bits_of_snoc}
+use Rattle.bits.proofs.Sides.{be_bytes_beside, beside-digits}
+use Rattle.bits.proofs.Chunks.{run_at}
 use Rattle.packed.specs.Packed.{bits_from, bits512, padded_to, padded}
-use Rattle.packed.proofs.Paddings.{zeros_at, drop-take, padded_part, padded_behind}
+use Rattle.packed.proofs.Paddings.{zeros_at, padded_part, padded_behind}
 use Rattle.packed.proofs.Windows.{blank_from}
 use Rattle.packed.proofs.Stores.{Over, over_more, over_all}
 use Rattle.payload.specs.Scrambler.{scrambled_from, register_after}
 use Rattle.payload.proofs.Scrambling.{length_scrambled, scrambled_append, scrambled_take, scrambled_drop}
 use Rattle.payload.proofs.Forming.{register_behind}
+use Rattle.payload.proofs.Writing.{bits_of-take, bits_of-drop}
 
--- ---- the bits of some bytes among others
+bytes_take : (n : ℕ) (f : List ℕ) → Bytes f → Bytes (take n f)
+bytes_take zero f h = tt
+bytes_take (suc n) [] h = tt
+bytes_take (suc n) (x ∷ f) h = (h.0, bytes_take n f h.1)
 
-bits_of-take : (n : ℕ) (f : List ℕ) → take (8 * n) (bits_of f) ≡ bits_of (take n f)
-unfolding bits_of
-bits_of-take zero f = refl
-bits_of-take (suc n) [] = take-nil (8 * suc n)
-bits_of-take (suc n) (x ∷ f) =
-    let e : 8 * suc n ≡ length (digits 8 x) + 8 * n = omega (arith, length_digits 8 x) in
-    ap (λ (k : ℕ). take k (digits 8 x ++ bits_of f)) e ∙ take-append-add (digits 8 x) (bits_of f) (8 * n) ∙ ap (λ (v : List ℕ). digits 8 x ++ v) (bits_of-take n f)
-
-bits_of-drop : (n : ℕ) (f : List ℕ) → drop (8 * n) (bits_of f) ≡ bits_of (drop n f)
-unfolding bits_of
-bits_of-drop zero f = refl
-bits_of-drop (suc n) [] = drop-nil (8 * suc n)
-bits_of-drop (suc n) (x ∷ f) =
-    let e : 8 * suc n ≡ length (digits 8 x) + 8 * n = omega (arith, length_digits 8 x) in
-    ap (λ (k : ℕ). drop k (digits 8 x ++ bits_of f)) e ∙ drop-append-add (digits 8 x) (bits_of f) (8 * n) ∙ bits_of-drop n f
+bytes_drop : (n : ℕ) (f : List ℕ) → Bytes f → Bytes (drop n f)
+bytes_drop zero f h = h
+bytes_drop (suc n) [] h = tt
+bytes_drop (suc n) (x ∷ f) h = bytes_drop n f h.1
 
 -- ---- bytes taken into a machine word
 
@@ -145,36 +141,6 @@ module _ (register : ℕ) (bytes : List ℕ) where
         after = register_behind m (8 * n) register s q at eq ∙ ap (λ (i : ℕ). register_after i register) (bits_more n w (length all) long h);
       }
 
-  -- eight bytes, and a machine word of their bits, x
-  pub packing_eight : {out : List ℕ} {s w : ℕ} (x y q : ℕ) → Packing register bytes out s w → 8 * w + 8 ≤ length (take 64 bytes)
-      → digits 64 x ≡ bits_of (take 8 (drop (8 * w) bytes)) → digits 64 y ≡ scrambled_from s (digits 64 x) → q ≡ register_after 64 s
-      → Packing register bytes (set out w y) q (w + 1)
-  packing_eight {s = s} {w = w} x y q k h ex ey eq =
-      let part = take 8 (drop (8 * w) bytes) in
-      let word = scrambled_from s (bits_of part) in
-      let same : part ≡ take 8 (drop (8 * w) (take 64 bytes))
-      = sym (ap (take 8) (drop-take (8 * w) 64 bytes) ∙ take-take 8 (64 - 8 * w) (drop (8 * w) bytes) (omega (arith, few))) in
-      let many : length part ≡ 8
-      = length-take-le 8 (drop (8 * w) bytes) (omega (arith, length-drop (8 * w) bytes, length-take 64 bytes)) in
-      let none : 0 ≡ 64 - length word = omega (arith, length_scrambled s (bits_of part), length-bits_of part) in
-      packing_more part y q k (omega arith) same
-      (ey ∙ ap (scrambled_from s) ex ∙ sym (append-nil word) ∙ ap (λ (i : ℕ). word ++ replicate i 0) none)
-      (eq ∙ ap (λ (i : ℕ). register_after (8 * i) s) (sym many))
-
-  -- the last, fewer than eight
-  pub packing_last : {out : List ℕ} {s w : ℕ} (n y q : ℕ) → Packing register bytes out s w → n ≡ length (take 64 bytes) → 8 * w < n → n < 8 * w + 8
-      → digits 64 y ≡ padded_to 64 (scrambled_from s (bits_of (take (n - 8 * w) (drop (8 * w) bytes))))
-      → q ≡ register_after (8 * length (take (n - 8 * w) (drop (8 * w) bytes))) s
-      → Packing register bytes (set out w y) q (w + 1)
-  packing_last {w = w} n y q k en h room ey eq =
-      let rest = drop (8 * w) bytes in
-      let long : length rest ≡ length bytes - 8 * w = length-drop (8 * w) bytes in
-      let all = length-take 64 bytes in
-      let same : take (n - 8 * w) rest ≡ take 8 (drop (8 * w) (take 64 bytes))
-      = take_all (n - 8 * w) rest (omega arith)
-      ∙ sym (ap (take 8) (drop-take (8 * w) 64 bytes) ∙ take-take 8 (64 - 8 * w) rest (omega arith) ∙ take_all 8 rest (omega arith)) in
-      packing_more (take (n - 8 * w) rest) y q k (omega arith) same ey eq
-
   pub packing_all : {out : List ℕ} {s w : ℕ} → Packing register bytes out s w → w ≤ 8 → length (take 64 bytes) ≤ 8 * w
       → (bits512 out ≡ padded (scrambled_from register (bits_of (take 64 bytes)))) × (s ≡ register_after (8 * length (take 64 bytes)) register)
   unfolding bits512
@@ -185,3 +151,33 @@ module _ (register : ℕ) (bytes : List ℕ) where
       = padded_behind word (64 * w) (omega (arith, length_word)) ∙ ap (λ (i : ℕ). replicate i 0) e ∙ sym (blank_from [] (8 - w) w (omega arith)) in
       let m : min (64 * w) (8 * length (take 64 bytes)) ≡ 8 * length (take 64 bytes) = omega arith in
       (over_all k.over h behind, k.after ∙ ap (λ (i : ℕ). register_after i register) m)
+
+  -- the bytes in eights, as `as_chunks` gives them, and the rest
+  module _ (part : List ℕ) (whole : part ≡ take 64 bytes) (eights : List (List ℕ)) (rest : List ℕ)
+      (front : eights ≡ first_chunks 8 (length part / 8) part) (back : rest ≡ drop (length part / 8 * 8) part) where
+    -- eight bytes, and a machine word of them, x
+    pub packing_eight : {out : List ℕ} {s w : ℕ} (x y q : ℕ) → Packing register bytes out s w → w < length part / 8
+        → Bytes bytes → x ≡ from_be_bytes w64 (get_or eights w [])
+        → digits 64 y ≡ scrambled_from s (digits 64 x) → q ≡ register_after 64 s → Packing register bytes (set out w y) q (w + 1)
+    packing_eight {s = s} {w = w} x y q k h octets ex ey eq =
+        let eight = get_or eights w [] in
+        let word = scrambled_from s (bits_of eight) in
+        let here : eight ≡ take 8 (drop (8 * w) part) = ap (λ (l : List (List ℕ)). get_or l w []) front ∙ run_at 8 (length part / 8) w part h in
+        let many : length eight ≡ 8 = ap length here ∙ length-take-le 8 (drop (8 * w) part) (omega (arith, length-drop (8 * w) part)) in
+        let low : Bytes eight = rw (here, whole) (bytes_take 8 (drop (8 * w) (take 64 bytes)) (bytes_drop (8 * w) (take 64 bytes) (bytes_take 64 bytes octets))) in
+        let read : digits 64 x ≡ bits_of eight = ap (digits 64) (ex ∙ be_bytes_beside eight many) ∙ beside-digits eight many low in
+        let none : 0 ≡ 64 - length word = omega (arith, length_scrambled s (bits_of eight), length-bits_of eight) in
+        packing_more eight y q k (omega (arith, ap length whole)) (here ∙ ap (λ (l : List ℕ). take 8 (drop (8 * w) l)) whole)
+        (ey ∙ ap (scrambled_from s) read ∙ sym (append-nil word) ∙ ap (λ (i : ℕ). word ++ replicate i 0) none)
+        (eq ∙ ap (λ (i : ℕ). register_after (8 * i) s) (sym many))
+
+    -- the last, fewer than eight
+    pub packing_last : {out : List ℕ} {s w : ℕ} (j y q : ℕ) → Packing register bytes out s w → j ≡ w → w ≡ length part / 8 → 0 < length rest
+        → digits 64 y ≡ padded_to 64 (scrambled_from s (bits_of rest)) → q ≡ register_after (8 * length rest) s
+        → (bits512 (set out j y) ≡ padded (scrambled_from register (bits_of (take 64 bytes)))) × (q ≡ register_after (8 * length (take 64 bytes)) register)
+    packing_last {w = w} j y q k ej ew some ey eq =
+        let long : length rest ≡ length part - length part / 8 * 8 = ap length back ∙ length-drop (length part / 8 * 8) part in
+        let at : length part / 8 * 8 ≡ 8 * w = omega arith in
+        let here : rest ≡ take 8 (drop (8 * w) (take 64 bytes))
+        = sym (take_all 8 rest (omega arith)) ∙ ap (take 8) (back ∙ ap₂ drop at whole) in
+        rw ej (packing_all (packing_more rest y q k (omega (arith, ap length whole)) here ey eq) (omega (arith, few, ap length whole)) (omega (arith, ap length whole)))

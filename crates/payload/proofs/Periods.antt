@@ -14,7 +14,7 @@ use Rattle.payload.proofs.Forming.{formed_from, first_formed, register_behind, s
 
 -- ---- the table
 
-entry : (n a r : ℕ) → a < n → get_or (registers_from n r) a 0 ≡ register_after (128 * a) r
+pub entry : (n a r : ℕ) → a < n → get_or (registers_from n r) a 0 ≡ register_after (128 * a) r
 unfolding registers_from register_after
 entry zero a r h = absurd (not-suc-le-zero h)
 entry (suc n) zero r h = refl
@@ -26,9 +26,6 @@ pub register_below : (n r : ℕ) → r < 2 ^ 15 → register_after n r < 2 ^ 15
 unfolding register_after shifted
 register_below zero r h = h
 register_below (suc n) r h = register_below n (shifted r) (mod-lt (r * 2 + formed r) (pow_pos 15))
-
-pub entry_below : (a : ℕ) → a < 256 → get_or (registers_from 256 start) a 0 < 2 ^ 15
-entry_below a h = rw (entry 256 a start h) (register_below (128 * a) start (lit< tt))
 
 -- ---- the period
 
@@ -54,15 +51,15 @@ register_again (suc q) p =
     ap (λ (k : ℕ). register_after k start) e ∙ register_more period (q * period + p) start ∙ ap (register_after (q * period + p)) register_round
     ∙ register_again q p
 
--- the entry before, and the bits after it, of what 8 n bits are past the last time round
+-- what 8 n bits are past the last time round: so many steps, and the bits after them
 pub register_read : (n : ℕ) → let p = n % period * 8 % period in
-    register_after (p % 128) (get_or (registers_from 256 start) (p / 128) 0) ≡ register_after (8 * n) start
+    register_after (p % 128) (register_after (128 * (p / 128)) start) ≡ register_after (8 * n) start
 register_read n =
     let p = n % period * 8 % period in
     let q = n / period * 8 + n % period * 8 / period in
     let s : 128 * (p / 128) + p % 128 ≡ p = omega arith in
     let e : q * period + p ≡ 8 * n = omega arith in
-    ap (register_after (p % 128)) (entry 256 (p / 128) start (omega arith)) ∙ sym (register_more (128 * (p / 128)) (p % 128) start)
+    sym (register_more (128 * (p / 128)) (p % 128) start)
     ∙ ap (λ (k : ℕ). register_after k start) s ∙ sym (register_again q p) ∙ ap (λ (k : ℕ). register_after k start) e
 
 -- ---- bits more

@@ -1,56 +1,68 @@
 -- Scrambled bits of machine words written as bytes: the eight bytes of a machine word, and bytes written one after the other, eight at a time or one.
 -- Assumes nothing.
-use mathlib.Core.Path.{◌≡◌, refl, sym, ap, ap₂, ◌∙◌}
+use mathlib.Core.Path.{◌≡◌, refl, sym, ap, ap₂, ◌∙◌, subst}
 use mathlib.Core.List.{List, [], ◌∷◌, ◌++◌, append-nil}
-use Prim.Native.Nat.{ℕ, ◌+◌, ◌-◌, ◌*◌, ◌/◌, ◌%◌, ◌^◌, ◌≤◌, ◌<◌}
+use Prim.Native.Nat.{ℕ, zero, suc, ◌+◌, ◌*◌, ◌/◌, ◌%◌, ◌^◌, ◌≤◌, ◌<◌}
 use native.Mathlib.Nat.{le_refl}
 use native.Mathlib.Numerals.{add-one}
 use native.Mathlib.Omega.{arith}
-use borrow.Rule.Slice.PartMut.{put_mid}
-use lib.ListN.{length, get_or, set, take, drop, length-set, drop_of_length-le}
-use lib.Seq.{take_at, drop_at, take_all, take-add, take-suc-set, length-take-le, sets-eq}
+use borrow.Rule.Slice.PartMut.{put_mid, same_len_mid}
+use lib.ListN.{length, get_or, set, take, drop, length-set}
+use lib.Seq.{take_at, drop-cons, take_all, take-add, take-suc-set, take-nil, drop-nil, take-append-add, drop-append-add, length-take-le}
+use Rattle.std.specs.Int.{to_be_bytes, w64}
 use Rattle.bits.specs.Words.{digits}
 use Rattle.bits.specs.Bytes.{bits_of}
 use Rattle.bits.proofs.Digits.{length_digits}
 use Rattle.bits.proofs.Shifts.{digits-mod-pow, digits_append}
 use Rattle.bits.proofs.Octets.{bits_of-append}
-use Rattle.bits.proofs.Copies.{part_written}
+use Rattle.bits.proofs.Copies.{part_long, part_written}
 use Rattle.packed.specs.Packed.{bits_from}
 use Rattle.packed.proofs.Walks.{length_from, part_from}
 use Rattle.payload.specs.Scrambler.{scrambled_from, register_after}
 use Rattle.payload.proofs.Scrambling.{scrambled_append}
 use Rattle.payload.proofs.Forming.{register_behind}
 
+-- ---- the bits of some bytes among others
+
+pub bits_of-take : (n : ℕ) (f : List ℕ) → take (8 * n) (bits_of f) ≡ bits_of (take n f)
+unfolding bits_of
+bits_of-take zero f = refl
+bits_of-take (suc n) [] = take-nil (8 * suc n)
+bits_of-take (suc n) (x ∷ f) =
+    let e : 8 * suc n ≡ length (digits 8 x) + 8 * n = omega (arith, length_digits 8 x) in
+    ap (λ (k : ℕ). take k (digits 8 x ++ bits_of f)) e ∙ take-append-add (digits 8 x) (bits_of f) (8 * n) ∙ ap (λ (v : List ℕ). digits 8 x ++ v) (bits_of-take n f)
+
+pub bits_of-drop : (n : ℕ) (f : List ℕ) → drop (8 * n) (bits_of f) ≡ bits_of (drop n f)
+unfolding bits_of
+bits_of-drop zero f = refl
+bits_of-drop (suc n) [] = drop-nil (8 * suc n)
+bits_of-drop (suc n) (x ∷ f) =
+    let e : 8 * suc n ≡ length (digits 8 x) + 8 * n = omega (arith, length_digits 8 x) in
+    ap (λ (k : ℕ). drop k (digits 8 x ++ bits_of f)) e ∙ drop-append-add (digits 8 x) (bits_of f) (8 * n) ∙ bits_of-drop n f
+
 -- ---- the bytes of a machine word
+
+-- the one at a place among others
+bits_of_at : (bs : List ℕ) (i : ℕ) → i < length bs → take 8 (drop (8 * i) (bits_of bs)) ≡ digits 8 (get_or bs i 0)
+unfolding bits_of
+bits_of_at bs i h =
+    let x = get_or bs i 0 in
+    ap (take 8) (bits_of-drop i bs ∙ ap bits_of (drop-cons bs i 0 h)) ∙ take_at (digits 8 x) (bits_of (drop (suc i) bs)) 8 (length_digits 8 x)
 
 -- a byte before n digits
 byte_before : (n x : ℕ) (rest : List ℕ) → rest ≡ digits n x → digits 8 (x / 2 ^ n % 256) ++ rest ≡ digits (8 + n) x
 byte_before n x rest e = ap₂ ◌++◌ (digits-mod-pow 8 8 (x / 2 ^ n) (le_refl 8)) e ∙ sym (digits_append 8 n x)
 
--- all eight, stored one after the other in a list that has just room for them
-pub eight_stored : (x : ℕ) (l : List ℕ) → length l ≡ 8
-    → bits_of (set (set (set (set (set (set (set (set l 0 (x / 2 ^ 56)) 1 (x / 2 ^ 48 % 256)) 2 (x / 2 ^ 40 % 256)) 3 (x / 2 ^ 32 % 256))
-    4 (x / 2 ^ 24 % 256)) 5 (x / 2 ^ 16 % 256)) 6 (x / 2 ^ 8 % 256)) 7 (x % 256))
-    ≡ digits 64 x
+-- all eight
+pub bits_of_word : (x : ℕ) → bits_of (to_be_bytes w64 x) ≡ digits 64 x
 unfolding bits_of
-eight_stored x l long =
-    let bytes = x / 2 ^ 56 ∷ x / 2 ^ 48 % 256 ∷ x / 2 ^ 40 % 256 ∷ x / 2 ^ 32 % 256 ∷ x / 2 ^ 24 % 256 ∷ x / 2 ^ 16 % 256 ∷ x / 2 ^ 8 % 256 ∷ x % 256 ∷ [] in
+bits_of_word x =
     let last : digits 8 (x % 256) ++ [] ≡ digits 8 x = append-nil (digits 8 (x % 256)) ∙ digits-mod-pow 8 8 x (le_refl 8) in
-    let behind = byte_before 48 x _ (byte_before 40 x _ (byte_before 32 x _ (byte_before 24 x _ (byte_before 16 x _ (byte_before 8 x _ last))))) in
-    ap bits_of (sets-eq bytes l 0 (omega arith) ∙ ap (λ (v : List ℕ). bytes ++ v) (drop_of_length-le l {i = 8} (omega arith)) ∙ append-nil bytes)
-    ∙ ap (λ (v : List ℕ). digits 8 (x / 2 ^ 56) ++ v) behind ∙ sym (digits_append 8 56 x)
+    byte_before 56 x _ (byte_before 48 x _ (byte_before 40 x _ (byte_before 32 x _ (byte_before 24 x _ (byte_before 16 x _ (byte_before 8 x _ last))))))
 
--- the one behind p digits
-pub byte_behind : (x p : ℕ) → p ≤ 56 → digits 8 (x / 2 ^ (56 - p) % 256) ≡ take 8 (drop p (digits 64 x))
-byte_behind x p h =
-    let q = 56 - p in
-    let s : 64 ≡ p + (8 + q) = omega arith in
-    let y = x / 2 ^ (8 + q) in
-    digits-mod-pow 8 8 (x / 2 ^ q) (le_refl 8)
-    ∙ sym (ap (λ (n : ℕ). take 8 (drop p (digits n x))) s
-    ∙ ap (λ (l : List ℕ). take 8 (drop p l)) (digits_append p (8 + q) x)
-    ∙ ap (take 8) (drop_at (digits p y) (digits (8 + q) x) p (length_digits p y) ∙ digits_append 8 q x)
-    ∙ take_at (digits 8 (x / 2 ^ q)) (digits q x) 8 (length_digits 8 (x / 2 ^ q)))
+-- one of them
+pub byte_of_word : (x i : ℕ) → i < 8 → digits 8 (get_or (to_be_bytes w64 x) i 0) ≡ take 8 (drop (8 * i) (digits 64 x))
+byte_of_word x i h = sym (ap (λ (l : List ℕ). take 8 (drop (8 * i) l)) (sym (bits_of_word x)) ∙ bits_of_at (to_be_bytes w64 x) i h)
 
 -- ---- bytes written
 
@@ -88,44 +100,44 @@ module _ {register : ℕ} {words : List ℕ} {n : ℕ} where
         }
 
     -- the eight of a machine word
-    pub eight_more : (ys : List ℕ) (x y q k : ℕ) → j % 8 ≡ 0 → j + 8 ≤ n → k ≡ 8 → length (put_mid j k out ys) ≡ length out → length ys ≡ 8
-        → x ≡ get_or words (j / 8) 0 → bits_of ys ≡ digits 64 y → digits 64 y ≡ scrambled_from s (digits 64 x) → q ≡ register_after 64 s
-        → Written register words n (put_mid j k out ys) q (j + 8)
-    eight_more ys x y q k whole room ek same long ex ey es eq =
+    pub eight_more : (ys : List ℕ) (i x y q k : ℕ) → j ≡ 8 * i → 8 * (i + 1) ≤ n → k ≡ 8 → ys ≡ to_be_bytes w64 y
+        → x ≡ get_or words i 0 → digits 64 y ≡ scrambled_from s (digits 64 x) → q ≡ register_after 64 s
+        → Written register words n (put_mid j k out ys) q (8 * (i + 1))
+    eight_more ys i x y q k ej room ek eys ex es eq =
         let all = bits_from n 0 words in
-        let at : 64 * (j / 8) + 0 ≡ 8 * j = omega arith in
+        let long : length ys ≡ 8 = ap length eys in
+        let at : 64 * i + 0 ≡ 8 * j = omega arith in
+        let next : 8 * (i + 1) ≡ j + 8 = omega arith in
         let word : digits 64 x ≡ take 64 (drop (8 * j) all)
-        = ap (digits 64) ex ∙ sym (ap (λ (i : ℕ). take 64 (drop i all)) (sym at) ∙ part_from words n (j / 8) 0 64 (omega arith) (le_refl 64)
-        ∙ take_all 64 (digits 64 (get_or words (j / 8) 0)) (omega (arith, length_digits 64 (get_or words (j / 8) 0)))) in
-        written_more (put_mid j k out ys) ys q 8 (same ∙ w.long) room
-        (rw ek (part_written j 8 out (omega arith) ys long))
-        (ey ∙ es ∙ ap (scrambled_from s) word) eq
+        = ap (digits 64) ex ∙ sym (ap (λ (m : ℕ). take 64 (drop m all)) (sym at) ∙ part_from words n i 0 64 (omega arith) (le_refl 64)
+        ∙ take_all 64 (digits 64 (get_or words i 0)) (omega (arith, length_digits 64 (get_or words i 0)))) in
+        rw (next, ek) (written_more (put_mid j 8 out ys) ys q 8 (same_len_mid j 8 out ys (long ∙ sym (part_long j 8 out (omega (arith, w.long)))) ∙ w.long) (omega arith)
+        (part_written j 8 out (omega (arith, w.long)) ys long)
+        (ap bits_of eys ∙ bits_of_word y ∙ es ∙ ap (scrambled_from s) word) eq)
 
     -- one byte of a machine word
-    pub byte_more : (b a x q : ℕ) → j < n → x ≡ get_or words (j / 8) 0 → digits 8 a ≡ take 8 (drop (8 * (j % 8)) (digits 64 x))
-        → digits 8 b ≡ scrambled_from s (digits 8 a) → q ≡ register_after 8 s → Written register words n (set out j b) q (j + 1)
+    pub byte_more : (last : List ℕ) (b x i q : ℕ) → j < n → i ≡ j / 8 → x ≡ get_or words i 0 → last ≡ to_be_bytes w64 x
+        → digits 8 b ≡ scrambled_from s (digits 8 (get_or last (j % 8) 0)) → q ≡ register_after 8 s → Written register words n (set out j b) q (j + 1)
     unfolding bits_of
-    byte_more b a x q room ex ea eb eq =
+    byte_more last b x i q room ei ex el eb eq =
         let all = bits_from n 0 words in
         let at : 64 * (j / 8) + 8 * (j % 8) ≡ 8 * j = omega arith in
         let inside : j < length out = omega arith in
-        let byte : digits 8 a ≡ take 8 (drop (8 * j) all)
-        = ea ∙ ap (λ (i : ℕ). take 8 (drop (8 * (j % 8)) (digits 64 i))) ex
+        let byte : digits 8 (get_or last (j % 8) 0) ≡ take 8 (drop (8 * j) all)
+        = ap (λ (l : List ℕ). digits 8 (get_or l (j % 8) 0)) el ∙ byte_of_word x (j % 8) (omega arith)
+        ∙ ap (λ (m : ℕ). take 8 (drop (8 * (j % 8)) (digits 64 m))) (ex ∙ ap (λ (m : ℕ). get_or words m 0) ei)
         ∙ sym (ap (λ (i : ℕ). take 8 (drop i all)) (sym at) ∙ part_from words n (j / 8) (8 * (j % 8)) 8 (omega arith) (omega arith)) in
         written_more (set out j b) (b ∷ []) q 1 (length-set out j b ∙ w.long) (omega arith) (rw add-one (take-suc-set out j b inside))
         (append-nil (digits 8 b) ∙ eb ∙ ap (scrambled_from s) byte) eq
 
-    -- as many as out has
-    pub written_out : Written register words (length out) out s j
-    written_out = rw w.long w
+    pub written_at : (i : ℕ) → j ≡ i → Written register words n out s i
+    written_at i e = subst (λ (k : ℕ). Written register words n out s k) e w
 
     -- all of them
-    pub written_all : (m : ℕ) → n ≡ m → n ≤ j
-        → (length out ≡ m) × (bits_of out ≡ scrambled_from register (take (8 * m) (bits_from m 0 words))) × (s ≡ register_after (8 * m) register)
-    written_all m em h =
+    pub written_all : n ≤ j → (length out ≡ n) × (bits_of out ≡ scrambled_from register (take (8 * n) (bits_from n 0 words))) × (s ≡ register_after (8 * n) register)
+    written_all h =
         let e : j ≡ n = omega arith in (
-          w.long ∙ em,
-          ap bits_of (sym (take_all j out (omega arith))) ∙ w.bits
-              ∙ ap₂ (λ (i k : ℕ). scrambled_from register (take (8 * i) (bits_from k 0 words))) (e ∙ em) em,
-          w.after ∙ ap (λ (i : ℕ). register_after (8 * i) register) (e ∙ em),
+          w.long,
+          ap bits_of (sym (take_all j out (omega arith))) ∙ w.bits ∙ ap (λ (i : ℕ). scrambled_from register (take (8 * i) (bits_from n 0 words))) e,
+          w.after ∙ ap (λ (i : ℕ). register_after (8 * i) register) e,
         )

@@ -1,6 +1,6 @@
 // The scrambler's register far into a frame, at once: it comes round, and a table has it at every step of one round.
 ghost use Rattle.std.specs.Prelude.{◌≡◌, ◌*◌, ◌≤◌, ◌<◌};
-ghost use Rattle.payload.specs.Scrambler.{start, register_after, registers_from};
+ghost use Rattle.payload.specs.Scrambler.{start, register_after};
 
 use crate::scrambler;
 
@@ -15,15 +15,15 @@ pub fn register_after(bytes: usize) -> u16
     ensures { result ≡ register_after (8 * bytes) start }
 {
     let bits = bytes % PERIOD * 8 % PERIOD;
-    let table = registers();
-    shift_bits(table[bits / STEP], bits % STEP)
+    shift_bits(entry(bits / STEP), bits % STEP)
 }
 
-// The table of registers.
-fn registers() -> [u16; 256]
-    ensures { result ≡ registers_from 256 start }
+// The register after so many steps, as the table has it.
+fn entry(steps: usize) -> u16
+    requires { steps < 256 }
+    ensures { (result ≡ register_after (128 * steps) start) × (result < 0x8000) }
 {
-    REGISTERS
+    REGISTERS[steps]
 }
 
 // So many formed bits are shifted in, fourteen at a time.
@@ -32,12 +32,10 @@ fn shift_bits(register: u16, bits: usize) -> u16
     ensures { result ≡ register_after bits register }
 {
     let mut s = register;
-    let mut left = bits;
-    while 14 <= left {
+    for _ in 0..bits / 14 {
         s = scrambler::shift14(s);
-        left -= 14;
     }
-    shift_few(s, left)
+    shift_few(s, bits % 14)
 }
 
 // At most fourteen formed bits are shifted in.

@@ -3,5 +3,4 @@
 #![tactic(auto)]
 
 pub mod ahead;
-pub mod quality;
 pub mod scrambler;

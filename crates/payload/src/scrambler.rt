@@ -25,22 +25,22 @@ fn shift(register: u16) -> u16
 }
 
 // Scrambles bits in place, from a register; answers the register after. Scrambling again from the same register gives them back.
+// It stays a call: put into its caller, its eight bits go through a vector register, which takes half as long again.
+#[inline(never)]
 pub fn scramble(register: u16, bits: &mut [u8]) -> u16
     ensures { (bits.new ≡ scrambled_from register bits.old) × (result ≡ register_after (length bits.old) register) }
 {
-    let mut s = register;
-    let mut i: usize = 0;
-    while i + 8 <= bits.len() {
-        add_eight(form8(s) as u8, &mut bits[i..i + 8]);
-        s = shift8(s);
-        i += 8;
+    let mut after = register;
+    let whole = bits.len() / 8;
+    for k in 0..whole {
+        add_eight(form8(after), &mut bits[8 * k..8 * k + 8]);
+        after = shift8(after);
     }
-    while i < bits.len() {
-        bits[i] = (form(s) as u8) ^ bits[i];
-        s = shift(s);
-        i += 1;
+    for i in 8 * whole..bits.len() {
+        bits[i] ^= form(after) as u8;
+        after = shift(after);
     }
-    s
+    after
 }
 
 // Adds the digits of key to eight elements.
@@ -48,14 +48,9 @@ fn add_eight(key: u8, bits: &mut [u8])
     requires { length bits.old ≡ 8 }
     ensures { bits.new ≡ zip_with bit_xor bits.old (digits 8 key) }
 {
-    bits[0] = bits[0] ^ key / 128;
-    bits[1] = bits[1] ^ key / 64 % 2;
-    bits[2] = bits[2] ^ key / 32 % 2;
-    bits[3] = bits[3] ^ key / 16 % 2;
-    bits[4] = bits[4] ^ key / 8 % 2;
-    bits[5] = bits[5] ^ key / 4 % 2;
-    bits[6] = bits[6] ^ key / 2 % 2;
-    bits[7] = bits[7] ^ key % 2;
+    for i in 0..8 {
+        bits[i] ^= key >> (7 - i) & 1;
+    }
 }
 
 // 64 bits scrambled, and the register after them.
@@ -65,7 +60,8 @@ pub struct Scrambled {
     pub register: u16,
 }
 
-// Fourteen formed bits.
+// Fourteen formed bits: as many as the register tells without a shift. One, eight, fourteen and 64 bits have functions of their own, since each is formed
+// otherwise: digits of the register, the front of fourteen, or runs of fourteen and eight.
 pub(crate) fn form14(register: u16) -> u16
     ensures { (digits 14 result ≡ scrambled_from register (replicate 14 0)) × (result < 0x4000) }
 {
@@ -80,17 +76,17 @@ pub(crate) fn shift14(register: u16) -> u16
 }
 
 // Eight formed bits.
-fn form8(register: u16) -> u16
-    ensures { (digits 8 result ≡ scrambled_from register (replicate 8 0)) × (result < 256) }
+fn form8(register: u16) -> u8
+    ensures { digits 8 result ≡ scrambled_from register (replicate 8 0) }
 {
-    form14(register) / 64
+    (form14(register) / 64) as u8
 }
 
 // Eight formed bits are shifted in.
 fn shift8(register: u16) -> u16
     ensures { result ≡ register_after 8 register }
 {
-    register % 128 * 256 + form8(register)
+    register % 128 * 256 + u16::from(form8(register))
 }
 
 // 64 formed bits: four times fourteen, and eight.
@@ -124,48 +120,24 @@ pub fn scramble64(register: u16, x: u64) -> Scrambled
     }
 }
 
-// Writes the eight bytes of a machine word, the highest first.
-fn store(x: u64, out: &mut [u8])
-    requires { length out.old ≡ 8 }
-    ensures { (bits_of out.new ≡ digits 64 x) × (length out.new ≡ 8) }
-{
-    out[0] = (x >> 56) as u8;
-    out[1] = ((x >> 48) % 256) as u8;
-    out[2] = ((x >> 40) % 256) as u8;
-    out[3] = ((x >> 32) % 256) as u8;
-    out[4] = ((x >> 24) % 256) as u8;
-    out[5] = ((x >> 16) % 256) as u8;
-    out[6] = ((x >> 8) % 256) as u8;
-    out[7] = (x % 256) as u8;
-}
-
 // Scrambles the bits of machine words from a register, as many as out has bytes for, and writes those bytes; answers the register after. Behind the last
 // machine word there are zeros.
 pub fn write_bytes(register: u16, words: &[u64], out: &mut [u8]) -> u16
     ensures { (length out.new ≡ length out.old) × (bits_of out.new ≡ scrambled_from register (take (8 * length out.old) (bits_from (length out.old) 0 words.now))) × (result ≡ register_after (8 * length out.old) register) }
 {
     let mut s = register;
-    let mut j: usize = 0;
-    while j + 8 <= out.len() {
-        let eight = scramble64(s, packed::word_at(words, j / 8));
-        store(eight.bits, &mut out[j..j + 8]);
+    let whole = out.len() / 8;
+    for k in 0..whole {
+        let eight = scramble64(s, packed::word_at(words, k));
+        out[8 * k..8 * k + 8].copy_from_slice(&eight.bits.to_be_bytes());
         s = eight.register;
-        j += 8;
     }
-    let x = packed::word_at(words, j / 8);
-    while j < out.len() {
-        out[j] = byte_of(x, j) ^ form8(s) as u8;
+    let last = packed::word_at(words, whole).to_be_bytes();
+    for j in 8 * whole..out.len() {
+        out[j] = last[j % 8] ^ form8(s);
         s = shift8(s);
-        j += 1;
     }
     s
-}
-
-// Of the eight bytes of a machine word, the one at place j, counted round eight.
-fn byte_of(x: u64, j: usize) -> u8
-    ensures { digits 8 result ≡ take 8 (drop (8 * (j % 8)) (digits 64 x)) }
-{
-    ((x >> (56 - 8 * (j % 8))) % 256) as u8
 }
 
 // Bits scrambled and packed, and the register after them.
@@ -179,20 +151,17 @@ pub struct Packed {
 pub fn pack_bytes(register: u16, bytes: &[u8]) -> Packed
     ensures { (bits512 result.bits ≡ padded (scrambled_from register (bits_of (take 64 bytes.now)))) × (result.register ≡ register_after (8 * length (take 64 bytes.now)) register) }
 {
-    let n = packed::least(bytes.len(), 64);
+    let (eights, rest) = bytes[..bytes.len().min(64)].as_chunks::<8>();
     let mut out = [0u64; 8];
     let mut s = register;
-    let mut w: usize = 0;
-    while w < n / 8 {
-        let eight = scramble64(s, load(bytes, 8 * w));
+    for w in 0..eights.len() {
+        let eight = scramble64(s, u64::from_be_bytes(eights[w]));
         out[w] = eight.bits;
         s = eight.register;
-        w += 1;
     }
-    let j = 8 * w;
-    if j < n {
-        let last = scramble_last(s, &bytes[j..n]);
-        out[w] = last.bits;
+    if 0 < rest.len() {
+        let last = scramble_last(s, rest);
+        out[eights.len()] = last.bits;
         s = last.register;
     }
     Packed {
@@ -208,36 +177,12 @@ fn scramble_last(register: u16, bytes: &[u8]) -> Scrambled
 {
     let mut x: u64 = 0;
     let mut s = register;
-    let mut j: usize = 0;
-    while j < bytes.len() {
-        x = x << 8 | wide(bytes[j] ^ form8(s) as u8);
+    for byte in bytes {
+        x = x << 8 | u64::from(*byte ^ form8(s));
         s = shift8(s);
-        j += 1;
     }
     Scrambled {
         bits: x << (64 - 8 * bytes.len()),
         register: s,
     }
-}
-
-// Eight bytes as a machine word, the first highest.
-fn load(bytes: &[u8], j: usize) -> u64
-    requires { j + 7 < length bytes.now }
-    ensures { digits 64 result ≡ bits_of (take 8 (drop j bytes.now)) }
-{
-    wide(bytes[j]) << 56
-        | wide(bytes[j + 1]) << 48
-        | wide(bytes[j + 2]) << 40
-        | wide(bytes[j + 3]) << 32
-        | wide(bytes[j + 4]) << 24
-        | wide(bytes[j + 5]) << 16
-        | wide(bytes[j + 6]) << 8
-        | wide(bytes[j + 7])
-}
-
-// A byte as a machine word.
-fn wide(x: u8) -> u64
-    ensures { (result ≡ x) × (result < 256) }
-{
-    x as u64
 }

@@ -1,6 +1,7 @@
 // Elements of GF(512) by the lane: nine machine words, the planes, hold one element for each of 64 lanes. Digit b of the element of lane l is bit l
-// of plane b, so that a sum or a product of 64 pairs is a few operations on machine words. Eight rows of planes have a lane for every element: lane l of
-// row w is for the element 64 w + l.
+// of plane b, so that a sum or a product of 64 pairs is a few operations on machine words. The planes are nine fields and not an array: a step times a,
+// of which all is made, treats the planes 0 and 4 apart, so that a loop over an array would be no plainer. Eight rows of planes have a lane for every
+// element: lane l of row w is for the element 64 w + l.
 #![tactic(auto)]
 
 ghost use Rattle.std.specs.Prelude.{ℕ, ◌%◌, ◌<◌, ◌≡◌};
@@ -37,7 +38,8 @@ fn next(v: Planes, x: Planes, y: u64) -> Planes
     }
 }
 
-// x where y has a lane, 0 elsewhere.
+// x where y has a lane, 0 elsewhere. `next`, `only`, `plus` and `sum` stand apart, though one could be made of another: each is a hot step, and has no
+// operation that it does not need.
 fn only(x: Planes, y: u64) -> Planes
     ensures { OnlyWhere x y result }
 {
@@ -127,18 +129,11 @@ fn all(x: u64) -> u64
     x % 2 * 0xffff_ffff_ffff_ffff
 }
 
-// x, as a machine word.
-fn wide(x: u16) -> u64
-    ensures { result ≡ x }
-{
-    x as u64
-}
-
 // x in each lane.
 fn spread(x: u16) -> Planes
     ensures { Throughout x result }
 {
-    let x0 = wide(x);
+    let x0 = u64::from(x);
     let x1 = x0 / 2;
     let x2 = x1 / 2;
     let x3 = x2 / 2;
@@ -179,13 +174,10 @@ pub struct Trio {
 fn digit(t: Trio, y: u64) -> Trio
     ensures { DigitTaken t y result }
 {
-    let d = t.d;
-    let e = t.e;
-    let v = plus(t.v, sum(d, e), y);
     Trio {
-        v,
-        d: times_a(d),
-        e: times_a(times_a(e)),
+        v: plus(t.v, sum(t.d, t.e), y),
+        d: times_a(t.d),
+        e: times_a(times_a(t.e)),
     }
 }
 
@@ -225,16 +217,13 @@ pub struct Affine {
 fn highs(t: Trio) -> Affine
     ensures { Highs t result }
 {
-    let low = t.v;
-    let d6 = t.d;
-    let e6 = t.e;
-    let d7 = times_a(d6);
-    let e7 = times_a(times_a(e6));
+    let d7 = times_a(t.d);
+    let e7 = times_a(times_a(t.e));
     let d8 = times_a(d7);
     let e8 = times_a(times_a(e7));
     Affine {
-        low,
-        six: sum(d6, e6),
+        low: t.v,
+        six: sum(t.d, t.e),
         seven: sum(d7, e7),
         eight: sum(d8, e8),
     }

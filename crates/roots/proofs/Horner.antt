@@ -10,7 +10,7 @@ use Rattle.algebra.proofs.Polynomials.{ev, ev_zero, ev-suc, ev_trim}
 use Rattle.field.proofs.Elements.{gf512, element_of}
 use Rattle.field.proofs.Values.{series}
 use Rattle.planes.specs.Lanes.{lane_of, value_of}
-use Rattle.roots.specs.Searches.{planes_at, cube, Cubes, Filled, Advanced, RowsTold, Searched, Triple, triples, Reached}
+use Rattle.roots.specs.Searches.{planes_at, cube, Filled, Advanced, RowsTold, Searched, Triple, triples, Reached}
 use Rattle.planes.specs.declared.Affine.{Affine}
 open gf512 use {Element, zero as 𝟘, add as ◌⊕◌, mul as ◌⊗◌}
 
@@ -69,17 +69,13 @@ reached_first loc m s t h f w l hw hl =
     rw one (f.each w l hw hl ∙ h w l hw hl ∙ zero_times_plus _ _)
 
 -- one step down
-pub reached_next : (loc : List ℕ) (m : ℕ) (s s' cubes : List ℕ) (i j : ℕ) (t : Affine) → Reached loc m s j → j ≡ suc i → j ≤ m → Cubes cubes → Triple loc i t
-    → Advanced cubes t s s' → Reached loc m s' i
-unfolding Reached Triple triples Cubes
-reached_next loc m s s' cubes i j t r e b c h f w l hw hl =
+pub reached_next : (loc : List ℕ) (m : ℕ) (s s' : List ℕ) (i j : ℕ) (t : Affine) → Reached loc m s j → j ≡ suc i → j ≤ m → Triple loc i t
+    → Advanced t s s' → Reached loc m s' i
+unfolding Reached Triple triples
+reached_next loc m s s' i j t r e b h f w l hw hl =
     let more : suc m - i ≡ suc (suc m - suc i) = omega arith in
     let old : lane_of (planes_at s w) l ≡ triples loc (suc m - suc i) (suc i) (element_of (64 * w + l)) = rw e at (r w l hw hl) in
-    rw more (f.each w l hw hl ∙ ap₂ gf512.add (ap₂ gf512.mul old (c w l hw hl)) (h w l hw hl))
-
--- where there are three terms only, nothing is left to be done
-pub reached_only : (loc : List ℕ) (m : ℕ) (s : List ℕ) → m ≤ 0 → Reached loc m s m → Reached loc m s 0
-reached_only loc m s h r = let none : m ≡ 0 = omega arith in rw none (rw none at r)
+    rw more (f.each w l hw hl ∙ ap₂ gf512.add (ap (λ u. u ⊗ cube (element_of (64 * w + l))) old) (h w l hw hl))
 
 -- at place 0 the lanes that are 0 are the locator's zeros
 pub reached_all : (loc : List ℕ) (m : ℕ) (s z : List ℕ) → Reached loc m s 0 → RowsTold s z → Searched loc (3 * suc m) z

@@ -13,7 +13,9 @@ use lib.Seq.{get_or-set_same, get_or-set_other}
 use Rattle.algebra.proofs.Fields.{ring}
 use Rattle.field.proofs.Elements.{gf512, element_of, of_0, of_1}
 use Rattle.planes.specs.Lanes.{bit_of, nine, number_at, lane_of, row_at, Summed, Multiplied, Vanishing}
-use Rattle.roots.specs.Searches.{planes_at, row_put, Grown, times_cube, plus_row, AddedAt, Filled, Advanced, RowsTold}
+use Rattle.roots.specs.Searches.{planes_at, row_put, Cubes, Grown, times_cube, plus_row, AddedAt, Filled, Advanced, RowsTold}
+use Rattle.roots.specs.declared.tables.TheConstants.{CUBES}
+use Rattle.roots.proofs.Cubing.{cubes_are}
 use Rattle.planes.specs.declared.Affine.{Affine}
 use Rattle.planes.specs.declared.Planes.{Planes}
 open gf512 use {Element, add as ◌⊕◌, mul as ◌⊗◌}
@@ -114,11 +116,11 @@ pub grown_all : (f : ℕ → ℕ → gf512.Element) (old new : List ℕ) (n : �
 grown_all f old new n u h = record { long = u.long; each = λ w l hw hl. u.done w l (omega arith) hl }
 
 -- the product that multiply puts at row n
-pub times_row : (cubes old new : List ℕ) (n : ℕ) (x y r : Planes) → Upto (times_cube cubes old) old new n → n < 8
-    → x ≡ planes_at new n → y ≡ planes_at cubes n → Multiplied x y r → (l : ℕ) → l < 64 → lane_of r l ≡ times_cube cubes old n l
-unfolding Multiplied
-times_row cubes old new n x y r b h hx hy hr l k =
-    hr l ∙ ap₂ gf512.mul (ap (λ p. lane_of p l) (hx ∙ b.kept n (omega arith) h)) (ap (λ p. lane_of p l) hy)
+pub times_row : (old new : List ℕ) (n : ℕ) (x y r : Planes) → Upto (times_cube old) old new n → n < 8
+    → x ≡ planes_at new n → y ≡ planes_at CUBES n → Multiplied x y r → (l : ℕ) → l < 64 → lane_of r l ≡ times_cube old n l
+unfolding Multiplied Cubes
+times_row old new n x y r b h hx hy hr l k =
+    hr l ∙ ap₂ gf512.mul (ap (λ p. lane_of p l) (hx ∙ b.kept n (omega arith) h)) (ap (λ p. lane_of p l) hy ∙ cubes_are n l h k)
 
 -- ---- the rows of t, each by one sum
 
@@ -202,8 +204,8 @@ filled_none t e g = record {
   each = λ w l hw hl. g.each w l hw hl ∙ ap (λ (s : List ℕ). lane_of (planes_at s w) l ⊕ row_at t w l) e ∙ ap (λ (x : Element). x ⊕ row_at t w l) (lane_none w l) ∙ gf512.zero-add (row_at t w l);
 }
 
-pub advanced_law : (cubes : List ℕ) (t : Affine) (old mid new : List ℕ) → Grown (times_cube cubes old) mid → Grown (plus_row mid t) new → Advanced cubes t old new
-advanced_law cubes t old mid new g h = record {
+pub advanced_law : (t : Affine) (old mid new : List ℕ) → Grown (times_cube old) mid → Grown (plus_row mid t) new → Advanced t old new
+advanced_law t old mid new g h = record {
   long = h.long;
   each = λ w l hw hl. h.each w l hw hl ∙ ap (λ u. gf512.add u (row_at t w l)) (g.each w l hw hl);
 }

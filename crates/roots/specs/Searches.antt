@@ -42,9 +42,9 @@ pub record Grown (f : ℕ → ℕ → gf512.Element) (s : List ℕ) : Type 0 whe
   pub long : length s ≡ 72
   pub each : (w l : ℕ) → w < 8 → l < 64 → lane_of (planes_at s w) l ≡ f w l
 
--- a sum times the cube in its lane
-abbrev pub times_cube : List ℕ → List ℕ → ℕ → ℕ → gf512.Element
-times_cube cubes s w l = gf512.mul (lane_of (planes_at s w) l) (lane_of (planes_at cubes w) l)
+-- a sum times the cube of its lane's element
+abbrev pub times_cube : List ℕ → ℕ → ℕ → gf512.Element
+times_cube s w l = gf512.mul (lane_of (planes_at s w) l) (cube (element_of (64 * w + l)))
 
 -- a sum and what t has in its lane
 abbrev pub plus_row : List ℕ → Affine → ℕ → ℕ → gf512.Element
@@ -60,10 +60,9 @@ pub record Filled (t : Affine) (s : List ℕ) : Type 0 where
   pub each : (w l : ℕ) → w < 8 → l < 64 → lane_of (planes_at s w) l ≡ row_at t w l
 
 -- the old sums times x^3, and what t adds
-pub record Advanced (cubes : List ℕ) (t : Affine) (old new : List ℕ) : Type 0 where
+pub record Advanced (t : Affine) (old new : List ℕ) : Type 0 where
   pub long : length new ≡ 72
-  pub each : (w l : ℕ) → w < 8 → l < 64
-      → lane_of (planes_at new w) l ≡ gf512.add (gf512.mul (lane_of (planes_at old w) l) (lane_of (planes_at cubes w) l)) (row_at t w l)
+  pub each : (w l : ℕ) → w < 8 → l < 64 → lane_of (planes_at new w) l ≡ gf512.add (times_cube old w l) (row_at t w l)
 
 -- bit l of the machine word w tells whether lane l of row w is 0
 unfoldable pub RowsTold : List ℕ → List ℕ → Type 0

@@ -4,13 +4,14 @@
 #![tactic(auto)]
 
 ghost use Rattle.std.specs.Prelude.{◌≡◌, suc, ◌*◌, ◌/◌, ◌<◌, min, length, replicate};
-ghost use Rattle.roots.specs.Searches.{planes_at, row_put, Cubes, Grown, times_cube, plus_row, AddedAt, Filled, Advanced, RowsTold, Triple, GoneDown, Searched};
+ghost use Rattle.roots.specs.Searches.{planes_at, row_put, Grown, times_cube, plus_row, AddedAt, Filled, Advanced, RowsTold, Triple, GoneDown, Searched};
 
 mod tables;
 
 use planes::{Affine, Planes};
+use tables::CUBES;
 
-// The planes of row w.
+// The planes of row w, one by one, as they are fields: of nine lists of eight the same nine entries would be read.
 fn planes_at(s: &[u64; 72], w: usize) -> Planes
     requires { w < 8 }
     ensures { result ≡ planes_at s.now w }
@@ -44,26 +45,13 @@ fn put(s: &mut [u64; 72], w: usize, v: Planes)
     s[64 + w] = v.p8;
 }
 
-// x^3 at each element x.
-fn cubes() -> [u64; 72]
-    ensures { Cubes result }
-{
-    tables::CUBES
-}
-
 // The sums times x^3.
-fn multiply(sums: &mut [u64; 72], cubes: &[u64; 72])
-    requires { length sums.old ≡ 72 }
-    ensures { Grown (times_cube cubes.now sums.old) sums.new }
+fn multiply(sums: &mut [u64; 72])
+    ensures { Grown (times_cube sums.old) sums.new }
 {
-    let mut w: usize = 0;
-    while w < 8 {
-        put(
-            sums,
-            w,
-            planes::product(planes_at(sums, w), planes_at(cubes, w)),
-        );
-        w += 1;
+    for w in 0..8 {
+        let cubes = planes_at(&CUBES, w);
+        put(sums, w, planes::product(planes_at(sums, w), cubes));
     }
 }
 
@@ -77,7 +65,6 @@ fn add_at(sums: &mut [u64; 72], w: usize, v: Planes)
 
 // Adds t: the rows one after the other, each by one sum.
 fn add_rows(sums: &mut [u64; 72], t: Affine)
-    requires { length sums.old ≡ 72 }
     ensures { Grown (plus_row sums.old t) sums.new }
 {
     let v0 = t.low;
@@ -107,11 +94,10 @@ fn fill(sums: &mut [u64; 72], t: Affine)
 }
 
 // The sums times x^3, and what t adds.
-fn advance(sums: &mut [u64; 72], cubes: &[u64; 72], t: Affine)
-    requires { length sums.old ≡ 72 }
-    ensures { Advanced cubes.now t sums.old sums.new }
+fn advance(sums: &mut [u64; 72], t: Affine)
+    ensures { Advanced t sums.old sums.new }
 {
-    multiply(sums, cubes);
+    multiply(sums);
     add_rows(sums, t);
 }
 
@@ -120,19 +106,10 @@ fn told(sums: &[u64; 72]) -> [u64; 8]
     ensures { RowsTold sums.now result }
 {
     let mut z = [0u64; 8];
-    let mut w: usize = 0;
-    while w < 8 {
+    for w in 0..8 {
         z[w] = planes::zeros(planes_at(sums, w));
-        w += 1;
     }
     z
-}
-
-// No sums.
-fn none() -> [u64; 72]
-    ensures { result ≡ replicate 72 0 }
-{
-    [0u64; 72]
 }
 
 // c + d x + e x^2 for the coefficients c, d, e from place 3 i on.
@@ -145,34 +122,22 @@ fn triple(locator: &[u16; 34], i: usize) -> Affine
 
 // The sums after Horner's rule has gone on from the coefficients at 3 from down to those at 0.
 fn go_down(sums: &mut [u64; 72], locator: &[u16; 34], from: usize)
-    requires { (length sums.old ≡ 72) × (from < 11) }
+    requires { from < 11 }
     ensures { GoneDown locator.now from sums.old sums.new }
 {
-    let table = cubes();
-    let mut i = from;
-    while 0 < i {
-        i -= 1;
-        advance(sums, &table, triple(locator, i));
+    for i in (0..from).rev() {
+        advance(sums, triple(locator, i));
     }
-}
-
-// len, or 32 where it is more: the last three coefficients then are 30, 31 and 32.
-fn within(len: usize) -> usize
-    ensures { (result ≡ min len 32) × (result < 33) }
-{
-    if len < 32 { len } else { 32 }
 }
 
 // Bit l of machine word w tells whether the locator vanishes at the element 64 w + l. Its coefficients up to len count, 33 at most, and one or two
-// behind them, which fill the last three up.
+// behind them, which fill the last three up: with 32 as the greatest len the last three are 30, 31 and 32.
 pub fn zeros(locator: &[u16; 34], len: usize) -> [u64; 8]
     ensures { Searched locator.now (3 * suc (min len 32 / 3)) result }
 {
-    let mut sums = none();
-    let i = within(len) / 3;
-    fill(&mut sums, triple(locator, i));
-    if 0 < i {
-        go_down(&mut sums, locator, i);
-    }
+    let mut sums = [0u64; 72];
+    let top = len.min(32) / 3;
+    fill(&mut sums, triple(locator, top));
+    go_down(&mut sums, locator, top);
     told(&sums)
 }

@@ -1,5 +1,5 @@
 // The planes of x^3 at each element x: digit b of the elements of row w stands at 8 b + w.
-pub(crate) const CUBES: [u64; 72] = [
+pub(crate) static CUBES: [u64; 72] = [
     0x9669_a55a_9966_55aa,
     0x6699_aa55_6996_5aa5,
     0xf00f_3cc3_00ff_33cc,

@@ -1,10 +1,9 @@
--- `bits::any` meets its contract: where all is below 2, no element before i is bad.
+-- `bits::any` meets its contract: where all is below 2, no element so far is bad.
 -- Assumes nothing.
-use mathlib.Core.List.{List}
-use Prim.Native.Nat.{ℕ, ◌+◌, ◌≤◌, ◌<◌}
+use Rattle.std.proofs.Common.{ℕ, List, length, ◌+◌, ◌≤◌, ◌<◌}
 use native.Mathlib.Omega.{arith}
 use lib.Bits.{bit_or, or_add_and, and_le_l, and_le_r}
-use lib.ListN.{length, get_or}
+use lib.ListN.{get_or}
 use borrow.Author.Tests.{le-ltb}
 use Rattle.ground.proofs.Firsts.{first_later}
 use Rattle.bits.specs.Words.{first_bad}
@@ -18,13 +17,10 @@ turn w i all l none h =
     let both = or_add_and all x in
     first_later _ 0 w i (none (omega (arith, both, and_le_r all x))) l (le-ltb 1 x (omega (arith, both, and_le_l all x)))
 
-pub loop-i-init : goal.loop-i-init
-loop-i-init c = λ h. omega arith
-
-pub loop-i-preserved : goal.loop-i-preserved
-loop-i-preserved c =
-    let l = c.loop-i in
-    turn c.args.word.now l.i l.all (omega arith) l.invariant
+pub loop-b-preserved : goal.loop-b-preserved
+loop-b-preserved c =
+    let l = c.loop-b in
+    turn c.args.word.now l.b-index l.all (omega arith) l.invariant
 
 pub returns : goal.returns
-returns c = λ h. all_bits c.args.word.now (omega (arith, c.loop-i.invariant h))
+returns c = λ h. all_bits c.args.word.now (omega (arith, c.loop-b.invariant h))

@@ -1,10 +1,10 @@
 -- `bits::put_digits` meets its contract: before what is written stand the digits of what is left of x.
 -- Assumes nothing.
-use mathlib.Core.Path.{◌≡◌, refl, ap, ◌∙◌}
+use mathlib.Core.Path.{◌≡◌, ap, ◌∙◌}
 use mathlib.Core.List.{List, ◌∷◌, ◌++◌, append-nil, append_assoc}
 use Prim.Native.Nat.{ℕ, suc, ◌-◌, ◌/◌, ◌%◌, ◌<◌}
 use native.Mathlib.Omega.{arith}
-use lib.ListN.{length, set, drop, length-set}
+use lib.ListN.{length, set, drop}
 use lib.Seq.{drop-length, drop-cons, drop-set-lt, get_or-set_same, lt-length-set}
 use Rattle.bits.specs.Words.{digits}
 use Rattle.bits.proofs.Digits.{digits_last}
@@ -21,23 +21,17 @@ turn out j x h = rw (drop-set out j (x % 2) h, digits_last j x, append_assoc)
 pub loop-i-init : goal.loop-i-init
 loop-i-init c =
     let out = c.args.out.now in
-    (omega arith, refl, rw (drop-length out) (append-nil (digits (length out) c.args.x)))
+    rw (drop-length out) (append-nil (digits (length out) c.args.x))
 
 pub loop-i-preserved : goal.loop-i-preserved
 loop-i-preserved c =
     let l = c.loop-i in
-    let s : suc (l.i - 1) ≡ l.i = omega arith in (
-      omega arith,
-      simp length-set l.invariant.1,
-      turn l.out (l.i - 1) l.rest (omega arith) ∙ ap (λ (n : ℕ). digits n l.rest ++ drop n l.out) s ∙ l.invariant.2,
-    )
-
-pub shape_of-out : goal.shape_of-out
-shape_of-out c = omega arith
+    let s : suc (l.i - 1) ≡ l.i = omega arith in
+    turn l.out (l.i - 1) l.rest (omega arith) ∙ ap (λ (n : ℕ). digits n l.rest ++ drop n l.out) s ∙ l.invariant
 
 pub returns : goal.returns
 unfolding digits
 returns c =
     let l = c.loop-i in
     let e : l.i ≡ 0 = omega arith in
-    rw e at l.invariant.2
+    rw e at l.invariant

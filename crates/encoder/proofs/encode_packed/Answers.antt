@@ -5,17 +5,17 @@ use Rattle.encoder.proofs.encode_packed.Goals as goal
 
 pub codeword-requires : goal.codeword-requires
 codeword-requires c =
-    let holds = rw c.in-Known.is at c.of_number-numbered.ensures in
+    let holds = rw c.in-Some.is at c.of_number.ensures in
     (holds.0, first_clear holds.0 _ _ c.first.ensures)
 
-pub returns-in-Known : goal.returns-in-Known
-returns-in-Known c =
+pub returns-in-Some : goal.returns-in-Some
+returns-in-Some c =
     let a = c.args in
-    let holds = rw c.in-Known.is at c.of_number-numbered.ensures in
+    let holds = rw c.in-Some.is at c.of_number.ensures in
     first_encoded holds.0 a.words _ c.first.ensures a.code holds.1 c.codeword.result c.codeword.ensures
 
-pub returns-in-Unknown : goal.returns-in-Unknown
-returns-in-Unknown c =
+pub returns-in-None : goal.returns-in-None
+returns-in-None c =
     let a = c.args in
-    let holds = rw c.in-Unknown.is at c.of_number-numbered.ensures in
+    let holds = rw c.in-None.is at c.of_number.ensures in
     unknown_encoded a.code holds a.words

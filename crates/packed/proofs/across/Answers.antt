@@ -2,13 +2,8 @@
 -- Assumes nothing.
 use Prim.Native.Nat.{◌%◌}
 use native.Mathlib.Omega.{arith}
-use Rattle.packed.proofs.Windows.{across_none, across_some}
+use Rattle.packed.proofs.Windows.{across_some}
 use Rattle.packed.proofs.across.Goals as goal
-
-pub returns-then-k-eq0 : goal.returns-then-k-eq0
-returns-then-k-eq0 c =
-    let a = c.args in
-    across_none a.high a.low (a.p % 64) c.if-k-eq0.true
 
 pub returns-else-k-eq0 : goal.returns-else-k-eq0
 returns-else-k-eq0 c =

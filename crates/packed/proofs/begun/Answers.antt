@@ -1,18 +1,14 @@
--- `packed::begun` meets its contract: machine word after machine word.
+-- `packed::begun` meets its contract: the front is copied, and the zeros behind it stay.
 -- Assumes nothing.
-use native.Mathlib.Omega.{arith}
-use Rattle.packed.proofs.Beginnings.{copied_none, copied_more, copied_all}
+use mathlib.Core.Path.{sym, ap, ◌∙◌}
+use mathlib.Core.List.{◌++◌}
+use lib.ListN.{length}
+use Rattle.packed.specs.Packed.{bits_from}
+use Rattle.packed.proofs.Amid.{zeros}
+use Rattle.packed.proofs.Beginnings.{begun}
 use Rattle.packed.proofs.begun.Goals as goal
-
-pub loop-w-init : goal.loop-w-init
-loop-w-init c = (omega arith, copied_none c.args.front)
-
-pub loop-w-preserved : goal.loop-w-preserved
-loop-w-preserved c =
-    let l = c.loop-w in
-    (omega arith, copied_more c.args.front l.out l.w l.invariant.1 (omega arith))
 
 pub returns : goal.returns
 returns c =
-    let l = c.loop-w in
-    copied_all c.args.front l.out l.w l.invariant.1 (omega arith)
+    let copied = c.copy_from_slice.ensures in
+    ap (λ front. bits_from 41 0 (front ++ zeros 33)) copied.after ∙ begun c.args.front (ap length (sym copied.after) ∙ copied.len)

@@ -18,7 +18,7 @@ loop-w-init c =
     let a = c.args in
     let ws = a.words.now in
     let none : 0 ≡ a.k / 64 - a.k / 64 = omega arith in
-    (omega arith, omega arith, ap (λ (j : ℕ). get_or (0 ∷ ws) j 0) none, down_begun ws a.k (omega arith))
+    (ap (λ (j : ℕ). get_or (0 ∷ ws) j 0) none, down_begun ws a.k (omega arith))
 
 pub loop-w-preserved : goal.loop-w-preserved
 loop-w-preserved c =
@@ -28,13 +28,13 @@ loop-w-preserved c =
     let w = l.w in
     let j = w - a.k / 64 in
     let next : suc j ≡ w + 1 - a.k / 64 = omega arith in
-    let read = c.below.ensures ∙ ap (λ (h : ℕ). across_of h (get_or ws j 0) (64 - a.k % 64)) l.invariant.2 in
+    let read = c.below.ensures ∙ ap (λ (h : ℕ). across_of h (get_or ws j 0) (64 - a.k % 64)) l.invariant.0 in
     let here = down_at ws a.k w c.below.result (omega arith) (omega arith) read in
-    (omega arith, omega arith, ap (λ (n : ℕ). get_or (0 ∷ ws) n 0) next, stored_more (down_of ws a.k) l.out w _ (omega arith) here l.invariant.3)
+    (ap (λ (n : ℕ). get_or (0 ∷ ws) n 0) next, stored_more (down_of ws a.k) l.out w _ (omega arith) here l.invariant.1)
 
 pub returns : goal.returns
 returns c =
     let l = c.loop-w in
     let a = c.args in
     let ws = a.words.now in
-    stored_all (down_of ws a.k) l.out l.w (length_down ws a.k) (omega arith) l.invariant.3
+    stored_all (down_of ws a.k) l.out l.w (length_down ws a.k) (omega arith) l.invariant.1

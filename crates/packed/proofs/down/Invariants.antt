@@ -2,7 +2,7 @@
 -- Assumes nothing.
 use mathlib.Core.Path.{◌≡◌}
 use mathlib.Core.List.{◌∷◌}
-use Prim.Native.Nat.{◌-◌, ◌/◌, ◌≤◌}
+use Prim.Native.Nat.{◌-◌, ◌/◌}
 use lib.ListN.{get_or}
 use Rattle.packed.proofs.Stores.{Stored}
 use Rattle.packed.proofs.Downs.{down_of}
@@ -10,7 +10,4 @@ use Rattle.packed.proofs.down.Given as goal
 
 abbrev pub invariant-loop-w : goal.invariant-loop-w
 invariant-loop-w l =
-    (l.k / 64 ≤ l.w) × (l.w ≤ 8) × (l.high ≡ get_or (0 ∷ l.words) (l.w - l.k / 64) 0) × Stored (down_of l.words l.k) l.out l.w
-
-abbrev pub decreases-loop-w : goal.decreases-loop-w
-decreases-loop-w l = 8 - l.w
+    (l.high ≡ get_or (0 ∷ l.words) (l.w - l.k / 64) 0) × Stored (down_of l.words l.k) l.out l.w

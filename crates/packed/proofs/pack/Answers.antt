@@ -9,39 +9,20 @@ use Rattle.packed.specs.Packed.{padded}
 use Rattle.packed.proofs.Walks.{from_none}
 use Rattle.packed.proofs.Paddings.{length_512_first, piece_at}
 use Rattle.packed.proofs.Stores.{stored_more, stored_all}
-use borrow.Author.Rules.{rules}
 use Rattle.packed.proofs.pack.Goals as goal
 
 pub loop-w-init : goal.loop-w-init
-loop-w-init c = (omega arith, (refl, from_none 0 _))
-
-pub overflow_mul-w : goal.overflow_mul-w
-overflow_mul-w c = search rules
-
-pub piece-requires : goal.piece-requires
-piece-requires c = search rules
-
-pub offset_bounds-out-w : goal.offset_bounds-out-w
-offset_bounds-out-w c = search rules
-
-pub bounds-out-w : goal.bounds-out-w
-bounds-out-w c = search rules
-
-pub overflow_add-w : goal.overflow_add-w
-overflow_add-w c = search rules
-
-pub loop-w-smaller : goal.loop-w-smaller
-loop-w-smaller c = search rules
+loop-w-init c = (refl, from_none 0 _)
 
 pub loop-w-preserved : goal.loop-w-preserved
 loop-w-preserved c =
     let l = c.loop-w in
     let word = c.args.word.now in
     let here = piece_at (lowest word) (length word) l.w _ (length-lowest word) (omega arith) c.piece.ensures in
-    (omega arith, stored_more (padded (take 512 (lowest word))) l.out l.w _ (omega arith) here l.invariant.1)
+    stored_more (padded (take 512 (lowest word))) l.out l.w _ (omega arith) here l.invariant
 
 pub returns : goal.returns
 returns c =
     let l = c.loop-w in
     let word = c.args.word.now in
-    stored_all (padded (take 512 (lowest word))) l.out l.w (length_512_first (lowest word)) (omega arith) l.invariant.1
+    stored_all (padded (take 512 (lowest word))) l.out l.w (length_512_first (lowest word)) (omega arith) l.invariant

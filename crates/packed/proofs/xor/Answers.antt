@@ -7,35 +7,10 @@ use lib.Bits.{bit_xor}
 use Rattle.packed.specs.Packed.{bits512}
 use Rattle.packed.proofs.Walks.{from_none}
 use Rattle.packed.proofs.Stores.{stored_more, stored_all, length_sum, sum_at}
-use borrow.Author.Rules.{rules}
 use Rattle.packed.proofs.xor.Goals as goal
 
 pub loop-i-init : goal.loop-i-init
-loop-i-init c = (omega arith, (refl, from_none 0 _))
-
-pub offset_bounds-v-i : goal.offset_bounds-v-i
-offset_bounds-v-i c = search rules
-
-pub bounds-v-i : goal.bounds-v-i
-bounds-v-i c = search rules
-
-pub offset_bounds-w-i : goal.offset_bounds-w-i
-offset_bounds-w-i c = search rules
-
-pub bounds-w-i : goal.bounds-w-i
-bounds-w-i c = search rules
-
-pub offset_bounds-out-i : goal.offset_bounds-out-i
-offset_bounds-out-i c = search rules
-
-pub bounds-out-i : goal.bounds-out-i
-bounds-out-i c = search rules
-
-pub overflow_add-i : goal.overflow_add-i
-overflow_add-i c = search rules
-
-pub loop-i-smaller : goal.loop-i-smaller
-loop-i-smaller c = search rules
+loop-i-init c = (refl, from_none 0 _)
 
 pub loop-i-preserved : goal.loop-i-preserved
 loop-i-preserved c =
@@ -43,7 +18,7 @@ loop-i-preserved c =
     let a = c.args in
     let v = a.v.now in
     let w = a.w.now in
-    (omega arith, stored_more (zip_with bit_xor (bits512 v) (bits512 w)) l.out l.i _ (omega arith) (sum_at v w l.i (omega arith)) l.invariant.1)
+    stored_more (zip_with bit_xor (bits512 v) (bits512 w)) l.out l.i _ (omega arith) (sum_at v w l.i (omega arith)) l.invariant
 
 pub returns : goal.returns
 returns c =
@@ -51,4 +26,4 @@ returns c =
     let a = c.args in
     let v = a.v.now in
     let w = a.w.now in
-    stored_all (zip_with bit_xor (bits512 v) (bits512 w)) l.out l.i (length_sum v w) (omega arith) l.invariant.1
+    stored_all (zip_with bit_xor (bits512 v) (bits512 w)) l.out l.i (length_sum v w) (omega arith) l.invariant

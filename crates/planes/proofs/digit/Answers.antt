@@ -7,7 +7,7 @@ pub returns : goal.returns
 returns c =
     digit_law _ _ _ _ _ _ _
     c.sum.ensures
-    c.plus-v.ensures
+    c.plus.ensures
     c.times_a.ensures
     c.times_a-2.ensures
     c.times_a-3.ensures

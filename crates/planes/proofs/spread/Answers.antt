@@ -20,4 +20,4 @@ returns c l h =
     (c.all-7.ensures l h)
     (c.all-8.ensures l h)
     (c.all-9.ensures l h))
-    ∙ ap element_of c.wide-x0.ensures
+    ∙ ap element_of c.from-x0.ensures

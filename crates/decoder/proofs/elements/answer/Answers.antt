@@ -12,20 +12,20 @@ pub write-requires : goal.write-requires
 write-requires c =
     let fit = c.requires in
     let mended = c.answer-mended in
-    let listed = elements_answered fit c.pack.result c.pack.ensures mended.result mended.ensures _ c.in-Accepted.is in
+    let listed = elements_answered fit c.pack.result c.pack.ensures mended.result mended.ensures _ c.in-Ok.is in
     record {
       bits = (fit.bits, omega (arith, fit.long, fit.room), few_listed listed fit.sound.few);
       count_in_bounds = (all_listed listed, listed_inside listed);
     }
 
-pub returns-in-Accepted : goal.returns-in-Accepted
-returns-in-Accepted c =
+pub returns-in-Ok : goal.returns-in-Ok
+returns-in-Ok c =
     let fit = c.requires in
     let mended = c.answer-mended in
-    let listed = elements_answered fit c.pack.result c.pack.ensures mended.result mended.ensures _ c.in-Accepted.is in
+    let listed = elements_answered fit c.pack.result c.pack.ensures mended.result mended.ensures _ c.in-Ok.is in
     inl (mended_written listed fit.long _ c.write.ensures)
 
-pub returns-in-Refused : goal.returns-in-Refused
-returns-in-Refused c =
+pub returns-in-Err : goal.returns-in-Err
+returns-in-Err c =
     let mended = c.answer-mended in
-    elements_refused c.requires c.pack.result c.pack.ensures mended.result mended.ensures _ c.in-Refused.is
+    elements_refused c.requires c.pack.result c.pack.ensures mended.result mended.ensures _ c.in-Err.is

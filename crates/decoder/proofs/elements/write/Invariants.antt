@@ -1,11 +1,7 @@
 -- `decoder::elements::write` meets its contract. The loop's invariant: the word stands in front, with the first j places flipped.
 -- Assumes nothing.
-use Prim.Native.Nat.{◌-◌, ◌≤◌}
 use Rattle.decoder.proofs.Flippings.{Front}
 use Rattle.decoder.proofs.elements.write.Given as goal
 
 abbrev pub invariant-loop-j : goal.invariant-loop-j
-invariant-loop-j l = (l.j ≤ l.count) × Front l.places l.word l.fn.out l.j l.out
-
-abbrev pub decreases-loop-j : goal.decreases-loop-j
-decreases-loop-j l = l.count - l.j
+invariant-loop-j l = Front l.places l.word l.fn.out l.j l.out

@@ -1,11 +1,7 @@
 -- `decoder::locator::discrepancy` meets its contract: d is the sum of the terms before j, and the terms behind len are zero.
 -- Assumes nothing.
-use Prim.Native.Nat.{◌≤◌, ◌+◌, ◌-◌}
 use Rattle.decoder.proofs.Coefficients.{Summed}
 use Rattle.decoder.proofs.locator.discrepancy.Given as goal
 
 abbrev pub invariant-loop-j : goal.invariant-loop-j
-invariant-loop-j l = (l.j ≤ l.len + 1) × Summed l.locator l.s l.r l.j l.d
-
-abbrev pub decreases-loop-j : goal.decreases-loop-j
-decreases-loop-j l = l.len + 1 - l.j
+invariant-loop-j l = Summed l.state.locator l.s l.r l.j l.d

@@ -2,12 +2,8 @@
 -- Assumes nothing.
 use mathlib.Core.Path.{◌≡◌}
 use mathlib.Core.List.{◌∷◌}
-use Prim.Native.Nat.{◌≤◌, ◌-◌}
 use lib.ListN.{length, take}
 use Rattle.decoder.proofs.locator.moved.Given as goal
 
 abbrev pub invariant-loop-i : goal.invariant-loop-i
-invariant-loop-i l = (2 ≤ l.i) × (l.i ≤ 34) × (length l.out ≡ 34) × (take l.i l.out ≡ take l.i (0 ∷ 0 ∷ l.p))
-
-abbrev pub decreases-loop-i : goal.decreases-loop-i
-decreases-loop-i l = 34 - l.i
+invariant-loop-i l = (length l.out ≡ 34) × (take l.i l.out ≡ take l.i (0 ∷ 0 ∷ l.p))

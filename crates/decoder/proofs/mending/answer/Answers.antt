@@ -2,25 +2,13 @@
 -- Assumes nothing.
 use mathlib.Core.Path.{sym, ◌∙◌}
 use mathlib.Core.Logic.{inl}
-use Prim.Native.Nat.{ℕ}
-use lib.ListN.{get_or}
-use mir.Syntax.{w64}
-use mir.Val.{Fits}
 use borrow.Author.Tests.{eqb-true}
 use Rattle.bch.specs.Registers.{contents}
 use Rattle.decoder.specs.Candidates.{word_of}
-use Rattle.remainders.proofs.Leftovers.{sound_narrowed}
 use Rattle.decoder.proofs.Leftovers.{codeword_of_zero}
 use Rattle.decoder.proofs.Attempts.{clean}
 use Rattle.decoder.proofs.PackedWords.{word_long, word_bits, written}
-use borrow.Author.Rules.{rules}
 use Rattle.decoder.proofs.mending.answer.Goals as goal
-
-pub leftover-left-requires : goal.leftover-left-requires
-leftover-left-requires c =
-    let table = c.table-table in
-    let fit : (j : ℕ) → Fits w64 (get_or table.result j 0) = λ j. search rules in
-    (record { sound = c.requires.0; rule = sound_narrowed c.requires.0 table.result (λ j. (fit j).fits) table.ensures }, c.requires.1)
 
 pub returns-then-is_zero : goal.returns-then-is_zero
 returns-then-is_zero c =
@@ -31,12 +19,3 @@ returns-then-is_zero c =
     rw c.unchanged.ensures
     (inl (clean (codeword_of_zero sound (word_of c.args.c words) (word_bits sound words) (word_long sound words) zero)
     (written sound words c.requires.1)))
-
-pub mend-requires : goal.mend-requires
-mend-requires c =
-    let table = c.table-table in
-    let fit : (j : ℕ) → Fits w64 (get_or table.result j 0) = λ j. search rules in (
-      record { sound = c.requires.0; rule = sound_narrowed c.requires.0 table.result (λ j. (fit j).fits) table.ensures },
-      c.requires.1,
-      c.leftover-left.ensures,
-    )

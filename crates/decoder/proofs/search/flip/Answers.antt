@@ -9,8 +9,8 @@ pub returns : goal.returns
 returns c =
     let marks = c.marked-marks.ensures in
     let sum = c.xor.ensures in
-    let searched = searched_trim _ c.args.len _ c.requires.1 c.requires.2 c.zeros-zeros.ensures in
-    let told = marked_told _ c.args.len _ c.args.n _ c.requires.3 searched marks in (
-      turned _ _ _ c.args.n c.requires.3 sum c.requires.4 marks.behind _ _ _ told c.listing.ensures,
-      copy_padded _ _ _ c.args.n c.requires.3 sum c.requires.4 marks.behind,
+    let searched = searched_trim _ c.args.len _ c.requires.0 c.requires.1 c.zeros-zeros.ensures in
+    let told = marked_told _ c.args.len _ c.args.n _ c.requires.2 searched marks in (
+      turned _ _ _ c.args.n c.requires.2 sum c.requires.3 marks.behind _ _ _ told c.listing.ensures,
+      copy_padded _ _ _ c.args.n c.requires.2 sum c.requires.3 marks.behind,
     )

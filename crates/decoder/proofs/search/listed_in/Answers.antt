@@ -3,12 +3,11 @@
 use mathlib.Core.Path.{◌≡◌, refl, sym, ap, ◌∙◌}
 use Prim.Native.Nat.{ℕ, ◌<◌}
 use native.Mathlib.Omega.{arith}
-use lib.Count.{leading_le}
 use lib.ListN.{length}
 use Rattle.bits.specs.Words.{digits}
 use Rattle.decoder.specs.Marks.{ones_from, all_more}
 use Rattle.decoder.specs.declared.search.Flips.{Flips}
-use Rattle.decoder.proofs.Ones.{ones_first, left_less, lead_less}
+use Rattle.decoder.proofs.Ones.{ones_first, left_less}
 use Rattle.decoder.proofs.Listings.{row_few, row_done, row_next}
 use Rattle.decoder.proofs.search.listed_in.Goals as goal
 
@@ -16,18 +15,6 @@ pub loop-rest-init : goal.loop-rest-init
 loop-rest-init c =
     let few = row_few c.args.from c.args.x in
     (omega arith, omega (arith, few), refl)
-
-pub put_place-requires : goal.put_place-requires
-put_place-requires c =
-    let loop = c.loop-rest in
-    let some : 0 < loop.rest = omega arith in
-    omega (arith, lead_less _ some loop.invariant.0)
-
-pub overflow_shr-rest : goal.overflow_shr-rest
-overflow_shr-rest c =
-    let loop = c.loop-rest in
-    let some : 0 < loop.rest = omega arith in
-    lead_less _ some loop.invariant.0
 
 pub loop-rest-smaller : goal.loop-rest-smaller
 loop-rest-smaller c =
@@ -53,9 +40,3 @@ returns c =
     let flips : Flips = record { count = c.loop-rest.count; places = c.loop-rest.places } in
     let none : c.loop-rest.rest ≡ 0 = omega arith in
     sym (row_done flips from) ∙ ap (λ (n : ℕ). all_more flips (ones_from from (digits 64 n))) (sym none) ∙ c.loop-rest.invariant.2
-
-pub overflow_cast-lead : goal.overflow_cast-lead
-overflow_cast-lead c = omega (arith, leading_le 64 c.loop-rest.rest)
-
-pub overflow_add-from : goal.overflow_add-from
-overflow_add-from c = omega (arith, leading_le 64 c.loop-rest.rest)

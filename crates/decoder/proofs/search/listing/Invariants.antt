@@ -1,11 +1,8 @@
 -- `decoder::search::listing` meets its contract: with the machine words from the w-th on still to be listed, all places are.
 -- Assumes nothing.
-use Prim.Native.Nat.{◌-◌, ◌*◌, ◌≤◌}
+use Prim.Native.Nat.{◌*◌, ◌≤◌}
 use Rattle.decoder.proofs.Listings.{Rest}
 use Rattle.decoder.proofs.search.listing.Given as goal
 
 abbrev pub invariant-loop-w : goal.invariant-loop-w
-invariant-loop-w l = (l.w ≤ 8) × (l.count ≤ 64 * l.w) × Rest l.marks l.w (record { count = l.count; places = l.places })
-
-abbrev pub decreases-loop-w : goal.decreases-loop-w
-decreases-loop-w l = 8 - l.w
+invariant-loop-w l = (l.count ≤ 64 * l.w) × Rest l.marks l.w (record { count = l.count; places = l.places })

@@ -8,16 +8,10 @@ use Rattle.decoder.proofs.LowestDigits.{holds_word}
 use Rattle.decoder.proofs.search.marked.Goals as goal
 
 pub loop-w-init : goal.loop-w-init
-loop-w-init c = (omega arith, placed_none _ _)
+loop-w-init c = placed_none _ _
 
 pub loop-w-preserved : goal.loop-w-preserved
 loop-w-preserved c =
     let loop = c.loop-w in
     let e : 64 * (loop.w + 1) ≡ 64 * loop.w + 64 = omega arith in
-    (omega arith, rw e (c.mark_row.ensures _ (holds_word _ loop.w) loop.invariant.1))
-
-pub returns : goal.returns
-returns c =
-    let loop = c.loop-w in
-    let e : loop.w ≡ 8 = omega arith in
-    rw e at loop.invariant.1
+    rw e (c.mark_row.ensures _ (holds_word _ loop.w) loop.invariant)

@@ -2,7 +2,7 @@
 -- Assumes nothing.
 use mathlib.Core.Path.{◌≡◌}
 use mathlib.Core.List.{List}
-use Prim.Native.Nat.{ℕ, ◌-◌, ◌*◌, ◌≤◌}
+use Prim.Native.Nat.{ℕ, ◌*◌}
 use lib.ListN.{length}
 use Rattle.bits.specs.Words.{Bits}
 use Rattle.decoder.specs.Syndromes.{Odds, Syndromes}
@@ -10,7 +10,4 @@ use Rattle.decoder.proofs.syndrome.syndromes.Given as goal
 
 abbrev pub invariant-loop-l : goal.invariant-loop-l
 invariant-loop-l l =
-    (l.l ≤ l.t) × (length l.out ≡ 32) × ((bits : List ℕ) → Bits bits → Odds bits l.t l.odd → Syndromes bits (l.l * 2) l.out)
-
-abbrev pub decreases-loop-l : goal.decreases-loop-l
-decreases-loop-l l = l.t - l.l
+    (length l.out ≡ 32) × ((bits : List ℕ) → Bits bits → Odds bits l.t l.odd → Syndromes bits (l.l * 2) l.out)

@@ -2,16 +2,13 @@
 -- Assumes nothing.
 use mathlib.Core.Path.{◌≡◌}
 use mathlib.Core.List.{List}
-use Prim.Native.Nat.{ℕ, ◌≤◌}
+use Prim.Native.Nat.{ℕ, ◌-◌, ◌*◌}
 use lib.ListN.{length}
 use Rattle.bch.specs.Registers.{contents, tops}
 use Rattle.decoder.specs.Syndromes.{Taken}
 use Rattle.decoder.proofs.syndrome.take_all.Given as goal
 
-abbrev pub invariant-loop-d : goal.invariant-loop-d
-invariant-loop-d l =
-    (l.d ≤ l.r) × (length l.sums ≡ length l.initial.sums)
-    × ((new : List ℕ) → Taken (tops l.d (contents l.rest)) l.sums new → Taken (tops l.r (contents l.initial.rest)) l.initial.sums new)
-
-abbrev pub decreases-loop-d : goal.decreases-loop-d
-decreases-loop-d l = l.d
+abbrev pub invariant-loop : goal.invariant-loop
+invariant-loop l =
+    (length l.sums ≡ length l.initial.sums)
+    × ((new : List ℕ) → Taken (tops (l.r - 8 * l.counter) (contents l.rest)) l.sums new → Taken (tops l.r (contents l.initial.rest)) l.initial.sums new)

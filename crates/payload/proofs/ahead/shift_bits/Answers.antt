@@ -1,29 +1,32 @@
 -- `payload::ahead::shift_bits` meets its contract: fourteen formed bits after the other, and the few that are left.
 -- Assumes nothing.
-use mathlib.Core.Path.{◌≡◌, refl, sym, ap, ◌∙◌}
-use Prim.Native.Nat.{ℕ, ◌+◌, ◌-◌}
+use Rattle.std.proofs.Common.{◌≡◌, refl, ap, ◌∙◌, ℕ, ◌+◌, ◌*◌, ◌%◌}
 use native.Mathlib.Omega.{arith}
-use borrow.Author.Rules.{rules}
 use Rattle.payload.specs.Scrambler.{register_after}
-use Rattle.payload.proofs.Scrambling.{register_more}
+use Rattle.payload.proofs.Forming.{register_behind}
 use Rattle.payload.proofs.Periods.{register_below}
 use Rattle.payload.proofs.ahead.shift_bits.Goals as goal
 
-pub loop-left-init : goal.loop-left-init
-loop-left-init c = (omega arith, refl)
+pub loop-init : goal.loop-init
+unfolding register_after
+loop-init c = (omega arith, refl)
 
-pub loop-left-preserved : goal.loop-left-preserved
-loop-left-preserved c =
-    let l = c.loop-left in
-    let rest = l.left - 14 in
-    let e : 14 + rest ≡ l.left = omega arith in
-    let after = c.shift14-s.ensures in (
+pub loop-preserved : goal.loop-preserved
+loop-preserved c =
+    let l = c.loop in
+    let r = c.args.register in
+    let after = c.shift14-s.ensures in
+    let sum : 14 * l.counter + 14 ≡ 14 * (l.counter + 1) = omega arith in (
       rw after (register_below 14 l.s l.invariant.0),
-      ap (register_after rest) after ∙ sym (register_more 14 rest l.s) ∙ ap (λ (k : ℕ). register_after k l.s) e ∙ l.invariant.1,
+      register_behind (14 * l.counter) 14 r l.s _ l.invariant.1 after ∙ ap (λ (k : ℕ). register_after k r) sum,
     )
 
 pub shift_few-requires : goal.shift_few-requires
-shift_few-requires c = search rules
+shift_few-requires c = (omega (arith, c.loop.invariant.0), omega arith)
 
 pub returns : goal.returns
-returns c = c.shift_few.ensures ∙ c.loop-left.invariant.1
+returns c =
+    let l = c.loop in
+    let r = c.args.register in
+    let sum : 14 * l.counter + c.args.bits % 14 ≡ c.args.bits = omega arith in
+    register_behind (14 * l.counter) (c.args.bits % 14) r l.s _ l.invariant.1 c.shift_few.ensures ∙ ap (λ (k : ℕ). register_after k r) sum

@@ -1,13 +1,8 @@
 -- `payload::ahead::shift_few` meets its contract: the first few of fourteen formed bits come in.
 -- Assumes nothing.
-use Prim.Native.Nat.{◌-◌}
 use native.Mathlib.Omega.{arith}
-use lib.Pow.{shr_le}
 use Rattle.payload.proofs.Periods.{few_shifted}
 use Rattle.payload.proofs.ahead.shift_few.Goals as goal
-
-pub overflow_add-result : goal.overflow_add-result
-overflow_add-result c = let k = c.form14.ensures in omega (arith, k.1, shr_le c.form14.result (14 - c.args.bits))
 
 pub returns : goal.returns
 returns c =

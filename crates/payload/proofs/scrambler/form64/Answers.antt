@@ -15,8 +15,8 @@ returns c =
     let k28 = c.form14-2.ensures in
     let k42 = c.form14-3.ensures in
     let k56 = c.form14-4.ensures in
-    let k64 = c.form8.ensures in
+    let k64 = c.form8 in
     let first28 = more_formed 14 14 _ _ r _ (lit≤ tt) k28.1 k14.0 after14 k28.0 in
     let first42 = more_formed 28 14 _ _ r _ (lit≤ tt) k42.1 first28 after28 k42.0 in
     let first56 = more_formed 42 14 _ _ r _ (lit≤ tt) k56.1 first42 after42 k56.0 in
-    more_formed 56 8 _ _ r _ (lit≤ tt) k64.1 first56 after56 k64.0
+    more_formed 56 8 _ k64.result r _ (lit≤ tt) k64.type_inv first56 after56 k64.ensures

@@ -1,8 +1,7 @@
 -- `payload::scrambler::form8` meets its contract: the first eight of fourteen.
 -- Assumes nothing.
-use native.Mathlib.Omega.{arith}
 use Rattle.payload.proofs.Forming.{first_formed}
 use Rattle.payload.proofs.scrambler.form8.Goals as goal
 
 pub returns : goal.returns
-returns c = let k = c.form14.ensures in (first_formed 8 6 _ c.args.register k.0, omega arith)
+returns c = first_formed 8 6 _ c.args.register c.form14.ensures.0

@@ -1,11 +1,7 @@
 -- `payload::scrambler::shift64` meets its contract: one run of formed bits after the other.
 -- Assumes nothing.
-use borrow.Author.Rules.{rules}
 use Rattle.payload.proofs.Forming.{register_behind}
 use Rattle.payload.proofs.scrambler.shift64.Goals as goal
-
-pub shift8-requires : goal.shift8-requires
-shift8-requires c = search rules
 
 pub returns : goal.returns
 returns c =

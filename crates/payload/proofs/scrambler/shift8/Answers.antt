@@ -5,4 +5,4 @@ use Rattle.payload.proofs.Forming.{shifted_in}
 use Rattle.payload.proofs.scrambler.shift8.Goals as goal
 
 pub returns : goal.returns
-returns c = let k = c.form8.ensures in shifted_in 7 7 _ c.args.register refl k.1 k.0
+returns c = let k = c.form8 in rw c.from.ensures (shifted_in 7 7 k.result c.args.register refl k.type_inv k.ensures)

@@ -1,9 +1,0 @@
--- `answers::of_written` meets its contract: no count, or the refusal.
--- Assumes nothing.
-use Rattle.answers.proofs.of_written.Goals as goal
-
-pub returns-in-Accepted : goal.returns-in-Accepted
-returns-in-Accepted c = rw c.in-Accepted.is c.accepted.ensures
-
-pub returns-in-Refused : goal.returns-in-Refused
-returns-in-Refused c = rw c.in-Refused.is c.of_refusal.ensures
