@@ -1,56 +1,22 @@
 -- OFDM symbols decided one behind the other: their tables grow by those of one OFDM symbol, and so do the levels that are written.
 -- Assumes nothing.
 use mathlib.Core.Path.{◌≡◌, refl, sym, ap, ap₂, ◌∙◌}
-use mathlib.Core.Bool.{true, ◌&&◌}
-use mathlib.Core.List.{List, ◌++◌, map, map-append, append_assoc}
-use Prim.Native.Nat.{ℕ, zero, suc, ◌+◌, ◌-◌, ◌*◌, ◌≤◌, ◌<◌}
-use native.Mathlib.Nat.{zero-add}
-use native.Mathlib.Numerals.{add-one}
+use mathlib.Core.List.{List, ◌++◌, map, append_assoc}
+use Prim.Native.Nat.{ℕ, ◌+◌, ◌-◌, ◌*◌, ◌≤◌, ◌<◌}
 use native.Mathlib.Omega.{arith}
 use borrow.Rule.Slice.PartMut.{mid_of, put_mid, Post-is, mid_len}
 use lib.IntN.{ℤ}
-use lib.ListN.{length, take, drop, replicate, length-append, length-drop, length-map, length-replicate}
+use lib.ListN.{length, take, drop, length-append, length-drop}
 use lib.Seq.{take_at, drop_at, drop-drop}
 use Rattle.points.specs.declared.Point.{Point}
-use Rattle.points.specs.Constellations.{points, level_i, level_q}
-use Rattle.points.specs.Dqpsk.{phases}
+use Rattle.points.specs.Constellations.{level_i, level_q}
 use Rattle.symbols.specs.Grids.{points_from, spread, placed, received, room}
-use Rattle.symbols.specs.Schemes.{Scheme, repeated}
-use Rattle.symbols.proofs.Rooms.{both_true, room_both}
 use Rattle.symbols.proofs.Readings.{length_points, length-received, received-one, received-add, points_take}
 use Rattle.symbols.proofs.Placings.{length-placed, placed_one, placed-append}
-use Rattle.symbols.proofs.Schemes.{repeated_more, repeated_long}
-use Rattle.decisions.specs.Decided.{decided, phase_tables, scheme_tables, decided_levels}
+use Rattle.decisions.specs.Decided.{decided, decided_levels}
 use Rattle.decisions.proofs.Tables.{length-decided, decided-append}
 use Rattle.decider.specs.Parts.{Enough, Symbol}
-
--- ---- tables
-
--- the tables of one OFDM symbol, and of every number of them
-pub record Grows (one : List (List Point)) (tables : ℕ → List (List Point)) : Type 0 where
-  pub long : length one ≡ 210
-  pub all_long : (k : ℕ) → length (tables k) ≡ 210 * k
-  pub more : (k : ℕ) → tables (k + 1) ≡ tables k ++ one
-
-replicate-add : {A : Type 0} (m n : ℕ) (a : A) → replicate (m + n) a ≡ replicate m a ++ replicate n a
-replicate-add zero n a = ap (λ (k : ℕ). replicate k a) (zero-add n)
-replicate-add (suc m) n a = let e : suc m + n ≡ suc (m + n) = omega arith in rw (e, replicate-add m n a)
-
--- those of DQPSK do
-pub phases_grow : Grows (phase_tables 210) (λ (k : ℕ). phase_tables (210 * k))
-phases_grow = record {
-  long = length-replicate 210 phases;
-  all_long = λ k. length-replicate (210 * k) phases;
-  more = λ k. let e : 210 * (k + 1) ≡ 210 * k + 210 = omega arith in ap phase_tables e ∙ replicate-add (210 * k) 210 phases;
-}
-
--- and those of a scheme
-pub scheme_grows : {scheme : List ℕ} → Scheme scheme → Grows (scheme_tables scheme) (λ (k : ℕ). scheme_tables (repeated k scheme))
-scheme_grows {scheme} good = record {
-  long = length-map scheme points ∙ good.long;
-  all_long = λ k. length-map (repeated k scheme) points ∙ repeated_long scheme good.long k;
-  more = λ k. ap scheme_tables (ap (λ (n : ℕ). repeated n scheme) (add-one k) ∙ repeated_more scheme k) ∙ map-append points (repeated k scheme) scheme;
-}
+use Rattle.decider.specs.Tables.{Grows}
 
 -- ---- places
 
@@ -185,13 +151,3 @@ module _ {one : List (List Point)} {tables : ℕ → List (List Point)} (g : Gro
         done_i = done_more g is qs level_i old_i k u.done_i ei;
         done_q = done_more g is qs level_q old_q k u.done_q eq;
       }
-
--- ---- room
-
--- all four lists have room for m OFDM symbols
-pub enough_of : (m : ℕ) → m ≤ 256 → (is qs out_i out_q : List ℤ) → true ≡ (room (256 * m) is qs && room (256 * m) out_i out_q) → Enough m is qs out_i out_q
-enough_of m few is qs out_i out_q e =
-    let both = both_true (room (256 * m) is qs) (room (256 * m) out_i out_q) e in
-    let ins = room_both (256 * m) is qs (sym both.0) in
-    let outs = room_both (256 * m) out_i out_q (sym both.1) in
-    record { few = few; long_i = ins.0; long_q = ins.1; long_out_i = outs.0; long_out_q = outs.1 }

@@ -12,11 +12,9 @@ use borrow.Author.Tests.{leb-true, eqb-true, ltb-true}
 use lib.Dec.{eqb, leb, ltb}
 use lib.IntN.{ℤ}
 use lib.ListN.{length, get_or, drop, length-replicate, get_or-replicate}
-use Rattle.answers.specs.Answers.{accepted, of_written, of_received_a}
+use Rattle.answers.specs.Answers.{accepted, of_written, of_received_a, Written}
 use Rattle.answers.specs.Checks.{Checked, fails}
 use Rattle.answers.specs.declared.Told.{Told}
-use Rattle.answers.specs.declared.Written.{Written}
-use Rattle.answers.specs.declared.Written.TheVariants.{Accepted}
 use Rattle.answers.specs.declared.ReceivedBurst.{ReceivedBurst}
 use Rattle.answers.proofs.Telling.{burst_told, by_test, not_refused}
 use Rattle.ground.proofs.Firsts.{first_none}
@@ -48,6 +46,7 @@ use Rattle.decisions.specs.Moves.{AllMoved, fine}
 use Rattle.decisions.proofs.Tables.{length-decided}
 use Rattle.decisions.proofs.Moves.{Among, moved_kept, fine_moved, decided_each, phase_there, phase_point, nearest_phase_legal, nearest_phase_at}
 use Rattle.decisions.proofs.Moves.{phases_four}
+use Rattle.std.specs.Prelude.{Ok}
 
 -- ---- the tables of DQPSK
 
@@ -217,14 +216,14 @@ module _ (mode : ℕ) (is qs out_i out_q : List ℤ) (answer : Written) (out_i' 
     )
 
     -- as a call of send A for the frame would
-    as_sent : SendingA mode frame out_i out_q Accepted out_i' out_q'
+    as_sent : SendingA mode frame out_i out_q (Ok tt) out_i' out_q'
     as_sent =
-        sendable (λ k. Sends k mode frame out_i out_q Accepted out_i' out_q') mode frame out_i out_q made.0 long made.1 (refl, kept_a.0, kept_a.1)
+        sendable (λ k. Sends k mode frame out_i out_q (Ok tt) out_i' out_q') mode frame out_i out_q made.0 long made.1 (refl, kept_a.0, kept_a.1)
 
     -- so the frame goes up, with nothing mended, no protected bit that differs, and no place listed
     pub up_moved_a : Bytes frame → (area : List ℕ) → bytes_a mode ≤ length area → (r : ReceivedBurst) (after : List ℕ)
         → ReceivingA mode out_i' out_q' area r after → (r ≡ burst_of 0 0 0 [] []) × (after ≡ frame ++ drop (bytes_a mode) area)
-    up_moved_a bytes area roomy r after receiving = round_trip mode frame out_i out_q Accepted out_i' out_q' as_sent refl bytes area roomy r after receiving
+    up_moved_a bytes area roomy r after receiving = round_trip mode frame out_i out_q (Ok tt) out_i' out_q' as_sent refl bytes area roomy r after receiving
 
   -- ---- there and back: a frame that send A sent, whose points were moved so and decided
 

@@ -11,14 +11,10 @@ use native.Mathlib.Omega.{arith}
 use lib.Dec.{leb, ltb}
 use lib.IntN.{ℤ}
 use lib.ListN.{length, take, drop, length-map}
-use Rattle.answers.specs.Answers.{accepted, because, of_written, of_received_b}
+use Rattle.answers.specs.Answers.{accepted, because, of_written, of_received_b, ReceivedB, Written, counted_b}
 use Rattle.answers.specs.Checks.{Checked, fails, passes}
 use Rattle.answers.specs.declared.Told.{Told}
-use Rattle.answers.specs.declared.Written.{Written}
-use Rattle.answers.specs.declared.Written.TheVariants as written
 use Rattle.answers.specs.declared.Refusal.{Refusal}
-use Rattle.answers.specs.declared.ReceivedB.{ReceivedB}
-use Rattle.answers.specs.declared.ReceivedB.TheVariants.{Accepted, Refused}
 use Rattle.answers.proofs.Telling.{never_accepted, by_test, not_refused}
 use Rattle.bits.specs.Bytes.{Bytes}
 use Rattle.points.specs.declared.Point.{Point}
@@ -52,6 +48,7 @@ use Rattle.decisions.specs.Moves.{AllMoved, fine}
 use Rattle.decisions.proofs.Tables.{length-decided}
 use Rattle.decisions.proofs.Moves.{fine_moved}
 use Rattle.decisions.proofs.PointsB.{points_decided, stray_decided, kept_mapped, filled, points_are, sent_are, points_bits, sent_points}
+use Rattle.std.specs.Prelude.{Ok, Err}
 
 -- ---- neither 7 nor 8
 
@@ -306,13 +303,13 @@ module _ (mode n : ℕ) (scheme : List ℕ) (is qs out_i out_q : List ℤ) (answ
           made.3 ∙ ap (λ (w : List ℤ). w ++ drop (256 * m) out_q) (at level_q),
         )
 
-    sending : SendingB mode frame scheme out_i out_q written.Accepted out_i' out_q'
+    sending : SendingB mode frame scheme out_i out_q (Ok tt) out_i' out_q'
     sending =
         subst P (sym (subst Pass (sym long) pass))
         (refl, subst (Left level_i out_i out_i') (sym long) kept_b.0, subst (Left level_q out_q out_q') (sym long) kept_b.1)
       where
         P : Checked Unit → Type 0
-        P c = SendsB c mode frame scheme out_i out_q written.Accepted out_i' out_q'
+        P c = SendsB c mode frame scheme out_i out_q (Ok tt) out_i' out_q'
 
         Pass : ℕ → Type 0
         Pass k = planned mode k scheme (cond (room (256 * symbols_for mode k scheme) out_i out_q) (passes tt) (fails 3 0)) ≡ passes tt
@@ -325,10 +322,10 @@ module _ (mode n : ℕ) (scheme : List ℕ) (is qs out_i out_q : List ℤ) (answ
 
     -- the frame comes back, with nothing mended
     pub up_moved_b : (area : List ℕ) → n ≤ length area → (r : ReceivedB) (after : List ℕ) → ReceivingB mode n scheme out_i' out_q' area r after
-        → (r ≡ Accepted 0 0) × (after ≡ frame ++ drop n area)
+        → (r ≡ counted_b 0 0) × (after ≡ frame ++ drop n area)
     up_moved_b area roomy r after receiving =
-        subst (λ (k : ℕ). (r ≡ Accepted 0 0) × (after ≡ frame ++ drop k area)) long
-        (round_trip mode frame scheme out_i out_q written.Accepted out_i' out_q' sending refl bytes area (omega arith) r after
+        subst (λ (k : ℕ). (r ≡ counted_b 0 0) × (after ≡ frame ++ drop k area)) long
+        (round_trip mode frame scheme out_i out_q (Ok tt) out_i' out_q' sending refl bytes area (omega arith) r after
         (subst (λ (k : ℕ). ReceivingB mode k scheme out_i' out_q' area r after) (sym long) receiving))
 
     -- the bits are those that were sent, so that receive B has an answer which gives the frame
@@ -341,7 +338,7 @@ module _ (mode n : ℕ) (scheme : List ℕ) (is qs out_i out_q : List ℤ) (answ
           word_b_lem ∙ ap (λ (ps : List Point). take (bits_for mode n) (labelled (repeated m scheme) ps)) kept_points_b ∙ points_bits sendable_b frame long
 
       abbrev made_b : ReceivedB
-      made_b = Accepted (total (wire_b mode n) word frame) (worst (wire_b mode n) word frame)
+      made_b = counted_b (total (wire_b mode n) word frame) (worst (wire_b mode n) word frame)
 
       there : ReceivingB mode n scheme out_i' out_q' area made_b (frame ++ drop n area)
       there =
@@ -359,15 +356,15 @@ module _ (mode n : ℕ) (scheme : List ℕ) (is qs out_i out_q : List ℤ) (answ
 
       -- and so it does by a stream
       pub up_moved_stream : {r : ReceivedB} {s : State} {a : List ℕ} → Streamed out_i' out_q' area (fresh mode n scheme) (symbols_for mode n scheme) r s a
-          → (r ≡ Accepted 0 0) × (a ≡ frame ++ drop n area)
+          → (r ≡ counted_b 0 0) × (a ≡ frame ++ drop n area)
       up_moved_stream {r} {s} {a} steps = by (whole_same sendable_b out_i' out_q' area roomy reach.0 reach.1 made_b (frame ++ drop n area) steps there)
         where
-          same : made_b ≡ Accepted 0 0
+          same : made_b ≡ counted_b 0 0
           same = (up_moved_b area roomy made_b (frame ++ drop n area) there).0
 
           by : ((r ≡ made_b) × (a ≡ frame ++ drop n area) × SoFar mode n scheme out_i' out_q' area m r s a)
-              ⊎ (FirstRefused mode n scheme out_i' out_q' area m r s a × ((why : Refusal) × (made_b ≡ Refused why)))
-              → (r ≡ Accepted 0 0) × (a ≡ frame ++ drop n area)
+              ⊎ (FirstRefused mode n scheme out_i' out_q' area m r s a × ((why : Refusal) × (made_b ≡ Err why)))
+              → (r ≡ counted_b 0 0) × (a ≡ frame ++ drop n area)
           by (inl p) = (p.0 ∙ same, p.1)
           by (inr p) = absurd (never_accepted p.1.0 _ 0 _ (sym (ap of_received_b p.1.1)))
 
@@ -378,13 +375,13 @@ module _ (mode n : ℕ) (scheme : List ℕ) (is qs out_i out_q : List ℤ) (answ
       (r : ReceivedB) (after : List ℕ) (receiving : ReceivingB mode n scheme out_i' out_q' area r after) where
     -- points that were moved so on their way give back the frame that was sent, with nothing mended
     pub round_trip_b : AllMoved 4 (received (symbols_for mode n scheme) is qs) (received (symbols_for mode n scheme) s_i' s_q')
-        → (r ≡ Accepted 0 0) × (after ≡ frame ++ drop n area)
+        → (r ≡ counted_b 0 0) × (after ≡ frame ++ drop n area)
     round_trip_b moved =
         up_moved_b frame bytes long
         (subst (AllMoved 4 (received m is qs)) (sent_points sendable_b frame long s_i s_q sent s_i' s_q' sending told) moved) area roomy r after receiving
 
     -- and so do clean points, in sixty-fourths
     pub clean_b : received (symbols_for mode n scheme) is qs ≡ map fine (received (symbols_for mode n scheme) s_i' s_q')
-        → (r ≡ Accepted 0 0) × (after ≡ frame ++ drop n area)
+        → (r ≡ counted_b 0 0) × (after ≡ frame ++ drop n area)
     clean_b e =
         round_trip_b (subst (λ (xs : List Point). AllMoved 4 xs (received m s_i' s_q')) (sym e) (fine_moved 4 (omega arith) (received m s_i' s_q')))

@@ -9,10 +9,9 @@ use native.Mathlib.Omega.{arith}
 use lib.IntN.{ℤ, pos, nat_abs, ◌-ℤ◌, ◌*ℤ◌, +ℤ_invr}
 use lib.ListN.{length, get_or, length-map, get_or-map}
 use lib.Seq.{ext_get_or}
+use Rattle.std.specs.Prelude.{Option, Some, None}
 use Rattle.points.specs.declared.Point.{Point}
 use Rattle.points.specs.declared.Point.TheVariants.{At, Nothing}
-use Rattle.points.specs.declared.Label.{Label}
-use Rattle.points.specs.declared.Label.TheVariants.{Of, Stray}
 use Rattle.points.specs.Constellations.{label_at, next, points, point_of, label_of, is_stray, level_i, level_q}
 use Rattle.points.specs.Dqpsk.{phases, phase_of}
 use Rattle.points.specs.Rules.{square}
@@ -100,9 +99,9 @@ unfolding phase_of phases label_at next
 phase_there Nothing e = absurd (true≢false e)
 phase_there (At i q) e = by (label_at phases i q) refl e
   where
-    by : (label : Label) → label_at phases i q ≡ label → is_stray label ≡ false → (l : ℕ) × (l < 4) × (At i q ≡ get_or phases l Nothing)
-    by (Of l) s k = let p = point_of_label phases i q l s in (l, in_list phases i q l p, sym p)
-    by Stray s k = absurd (true≢false k)
+    by : (label : Option ℕ) → label_at phases i q ≡ label → is_stray label ≡ false → (l : ℕ) × (l < 4) × (At i q ≡ get_or phases l Nothing)
+    by (Some l) s k = let p = point_of_label phases i q l s in (l, in_list phases i q l p, sym p)
+    by None s k = absurd (true≢false k)
 
 -- and each of the four is legal
 pub phase_legal : (l : ℕ) → l < 4 → is_stray (phase_of (level_i (get_or phases l Nothing)) (level_q (get_or phases l Nothing))) ≡ false
@@ -160,7 +159,7 @@ module _ (n : ℕ) (low : 2 ≤ n) (high : n ≤ 10) (i q : ℤ) where
   nearest_of_at = rw nearest_of.2 (sym (some_point n nearest_of.0 nearest_of.1))
 
   -- it has its label
-  pub nearest_of_label : label_of n (level_i of) (level_q of) ≡ Of nearest_of.0
+  pub nearest_of_label : label_of n (level_i of) (level_q of) ≡ Some nearest_of.0
   nearest_of_label = label_of_point n nearest_of.0 (level_i of) (level_q of) (sym nearest_of.2 ∙ sym nearest_of_at)
 
   -- and so is not stray

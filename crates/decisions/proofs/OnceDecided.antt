@@ -5,7 +5,6 @@ use mathlib.Core.List.{List}
 use Prim.Native.Nat.{ℕ}
 use lib.IntN.{ℤ}
 use Rattle.answers.specs.Checks.{Checked, fails, passes}
-use Rattle.answers.specs.declared.Written.{Written}
 use Rattle.answers.proofs.Telling.{written_same}
 use Rattle.points.specs.declared.Point.{Point}
 use Rattle.symbols.specs.Schemes.{repeated}
@@ -13,6 +12,7 @@ use Rattle.payload_a.specs.PromiseA.{point_count_a}
 use Rattle.payload_b.specs.CodedB.{symbols_for}
 use Rattle.decisions.specs.Decided.{phase_tables, scheme_tables}
 use Rattle.decisions.specs.Deciding.{decide_checked_a, decide_checked_b, Decides, DecidingA, DecidingB}
+use Rattle.answers.specs.Answers.{Written}
 
 module _ (is qs out_i out_q : List ℤ) (a b : Written) (i1 q1 i2 q2 : List ℤ) where
   -- whatever the checks find and the tables are

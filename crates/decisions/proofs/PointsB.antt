@@ -9,9 +9,8 @@ use lib.IntN.{ℤ}
 use lib.ListN.{length, get_or, take, drop, length-append, length-replicate, length-take, length-map, get_or-map}
 use lib.Seq.{take_at}
 use Rattle.ground.specs.First.{first_in}
-use Rattle.answers.specs.Answers.{accepted, of_written}
+use Rattle.answers.specs.Answers.{accepted, of_written, Written}
 use Rattle.answers.specs.Checks.{Checked, fails}
-use Rattle.answers.specs.declared.Written.{Written}
 use Rattle.answers.proofs.Telling.{by_test, not_refused}
 use Rattle.bits.specs.Words.{Bits}
 use Rattle.bits.specs.Bytes.{as_number}

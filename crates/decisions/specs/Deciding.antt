@@ -2,9 +2,8 @@
 -- Its checks are those of the job it serves, and 3 is for all four lists.
 -- Assumes nothing.
 use Rattle.std.specs.Prelude.{◌≡◌, cond, ◌&&◌, List, ◌++◌, ℕ, ◌*◌, leb, ℤ, drop}
-use Rattle.answers.specs.Answers.{accepted, refused, of_written}
+use Rattle.answers.specs.Answers.{accepted, refused, of_written, Written}
 use Rattle.answers.specs.Checks.{Checked, fails, passes}
-use Rattle.answers.specs.declared.Written.{Written}
 use Rattle.points.specs.declared.Point.{Point}
 use Rattle.points.specs.Constellations.{level_i, level_q}
 use Rattle.symbols.specs.Grid.{sub_carriers}

@@ -3,11 +3,11 @@
 ghost use Rattle.std.specs.Prelude.{◌≡◌, ◌+◌, ◌*◌, ◌%◌, ◌≤◌, ◌<◌};
 ghost use Rattle.nearest.specs.Axes.{is_hole, candidate_of, lesser, least_of, standing, round_line, beside_hole, in_holed};
 
-use crate::axis;
+use crate::axis::Axis;
 use points::{Point, constellation};
 
 // A point that may be the nearest: its key, by which distances come first and then labels, and its levels.
-#[derive(Clone, Copy)]
+#[derive(Clone, Copy, Debug, PartialEq, Eq)]
 pub struct Candidate {
     pub key: u64,
     pub i: i16,
@@ -17,92 +17,87 @@ pub struct Candidate {
 // More than any point's key.
 const HOLE: u64 = 0x8000_0000_0000_0000;
 
-// The nearest point of so many bits.
-pub(crate) fn nearest_in(quadrants: &[u64; 128], bits: u8, x: u16, y: u16) -> Point
-    requires { (2 ≤ bits) × (bits ≤ 10) × (bits % 2 ≡ 1) }
-    ensures { result ≡ in_holed quadrants.now bits x y }
-{
-    let w = axis::width(bits);
-    let j = axis::stretch(w, x);
-    let k = axis::stretch(w, y);
-    let j2 = axis::beyond(w, x, j);
-    let k2 = axis::beyond(w, y, k);
-    if j == j2 {
-        if k == k2 {
-            if is_hole(j, k) {
-                return beside_hole(quadrants, bits, w, x, y, j, k);
-            }
-            return Point::At {
-                i: axis::level(w, j),
-                q: axis::level(w, k),
-            };
+// What came in, raised, and the axis that both are decided on.
+#[derive(Clone, Copy)]
+struct Sought {
+    axis: Axis,
+    x: u16,
+    y: u16,
+}
+
+impl Sought {
+    // The nearest of the four points beside a hole.
+    fn beside_hole(self, j: u16, k: u16) -> Point
+        requires { (1 ≤ j) × (1 ≤ k) × (j + 1 < self.axis.width) × (k + 1 < self.axis.width) }
+        ensures { result ≡ beside_hole self.axis.bits self.axis.width self.x self.y j k }
+    {
+        least(
+            self.weighed(j - 1, k),
+            self.weighed(j + 1, k),
+            self.weighed(j, k - 1),
+            self.weighed(j, k + 1),
+        )
+    }
+
+    // The nearest of those round a line, or round two.
+    fn round_line(self, j: u16, k: u16, j2: u16, k2: u16) -> Point
+        requires { (j < self.axis.width) × (k < self.axis.width) × (j2 < self.axis.width) × (k2 < self.axis.width) }
+        ensures { result ≡ round_line self.axis.bits self.axis.width self.x self.y j k j2 k2 }
+    {
+        least(
+            self.weighed(j, k),
+            self.weighed(j2, k),
+            self.weighed(j, k2),
+            self.weighed(j2, k2),
+        )
+    }
+
+    // The point of two stretches, with its key.
+    fn weighed(self, j: u16, k: u16) -> Candidate
+        requires { (j < self.axis.width) × (k < self.axis.width) }
+        ensures { result ≡ candidate_of self.axis.bits self.axis.width self.x self.y j k }
+    {
+        let i = self.axis.level(j);
+        let q = self.axis.level(k);
+        if is_hole(j, k) {
+            return Candidate { key: HOLE, i, q };
+        }
+        let label = u64::from(constellation::read(self.axis.bits, i, q));
+        Candidate {
+            key: 1024 * far(self.axis.off(self.x, j), self.axis.off(self.y, k)) + label,
+            i,
+            q,
         }
     }
-    round_line(quadrants, bits, w, x, y, j, k, j2, k2)
+}
+
+// The nearest point.
+pub(crate) fn nearest(axis: Axis, x: u16, y: u16) -> Point
+    requires { axis.bits % 2 ≡ 1 }
+    ensures { result ≡ in_holed axis.bits x y }
+{
+    let sought = Sought { axis, x, y };
+    let j = axis.stretch(x);
+    let k = axis.stretch(y);
+    let j2 = axis.beyond(x, j);
+    let k2 = axis.beyond(y, k);
+    if j != j2 || k != k2 {
+        return sought.round_line(j, k, j2, k2);
+    }
+    if is_hole(j, k) {
+        return sought.beside_hole(j, k);
+    }
+    Point::At {
+        i: axis.level(j),
+        q: axis.level(k),
+    }
 }
 
 // Whether no point stands there.
 fn is_hole(j: u16, k: u16) -> bool
     ensures { result ≡ is_hole j k }
 {
-    if j % 3 == 1 {
-        return k % 3 == 1;
-    }
-    false
-}
-
-// The nearest of the four points beside a hole.
-fn beside_hole(quadrants: &[u64; 128], bits: u8, w: u16, x: u16, y: u16, j: u16, k: u16) -> Point
-    requires { (w ≤ 32) × (1 ≤ j) × (1 ≤ k) × (j + 1 < w) × (k + 1 < w) }
-    ensures { result ≡ beside_hole quadrants.now bits w x y j k }
-{
-    least(
-        weighed(quadrants, bits, w, x, y, j - 1, k),
-        weighed(quadrants, bits, w, x, y, j + 1, k),
-        weighed(quadrants, bits, w, x, y, j, k - 1),
-        weighed(quadrants, bits, w, x, y, j, k + 1),
-    )
-}
-
-// The nearest of those round a line, or round two.
-fn round_line(
-    quadrants: &[u64; 128],
-    bits: u8,
-    w: u16,
-    x: u16,
-    y: u16,
-    j: u16,
-    k: u16,
-    j2: u16,
-    k2: u16,
-) -> Point
-    requires { (w ≤ 32) × (j < w) × (k < w) × (j2 < w) × (k2 < w) }
-    ensures { result ≡ round_line quadrants.now bits w x y j k j2 k2 }
-{
-    least(
-        weighed(quadrants, bits, w, x, y, j, k),
-        weighed(quadrants, bits, w, x, y, j2, k),
-        weighed(quadrants, bits, w, x, y, j, k2),
-        weighed(quadrants, bits, w, x, y, j2, k2),
-    )
-}
-
-// The point of two stretches, with its key.
-fn weighed(quadrants: &[u64; 128], bits: u8, w: u16, x: u16, y: u16, j: u16, k: u16) -> Candidate
-    requires { (w ≤ 32) × (j < w) × (k < w) }
-    ensures { result ≡ candidate_of quadrants.now bits w x y j k }
-{
-    let i = axis::level(w, j);
-    let q = axis::level(w, k);
-    if is_hole(j, k) {
-        return Candidate { key: HOLE, i, q };
-    }
-    let label = constellation::label_read(quadrants, bits, i, q) as u64;
-    Candidate {
-        key: 1024 * far(axis::off(w, x, j), axis::off(w, y, k)) + label,
-        i,
-        q,
-    }
+    j % 3 == 1 && k % 3 == 1
 }
 
 // The sum of two squares.

@@ -8,36 +8,31 @@
 #![tactic(auto)]
 
 ghost use Rattle.std.specs.Prelude.{◌≡◌};
+ghost use Rattle.points.specs.Constellations.{points};
 ghost use Rattle.points.specs.Dqpsk.{phases};
 ghost use Rattle.nearest.specs.Nearest.{nearest};
-ghost use Rattle.nearest.specs.Axes.{is_upright, nearest_in};
+ghost use Rattle.nearest.specs.Axes.{is_upright};
 
 mod axis;
 mod eight;
 mod holes;
 mod square;
 
+use axis::Axis;
 use points::Point;
 
-// The nearest point of so many bits, by the table that is lent (points' `quadrants`): nothing, unless they are 2 to 10.
-pub fn point_in(quadrants: &[u64; 128], bits: u8, i: i16, q: i16) -> Point
-    ensures { result ≡ nearest_in quadrants.now bits i q }
+// The nearest point of so many bits: nothing, unless they are 2 to 10.
+pub fn point(bits: u8, i: i16, q: i16) -> Point
+    ensures { result ≡ nearest (points bits) i q }
 {
-    if bits < 2 {
-        return Point::Nothing;
-    }
-    if 10 < bits {
-        return Point::Nothing;
-    }
     let x = axis::raised(i);
     let y = axis::raised(q);
-    if bits % 2 == 0 {
-        return square::nearest(bits, x, y);
+    match bits {
+        3 => eight::nearest(x, y),
+        2 | 4 | 6 | 8 | 10 => square::nearest(Axis::of_even(bits), x, y),
+        5 | 7 | 9 => holes::nearest(Axis::of_odd(bits), x, y),
+        _ => Point::Nothing,
     }
-    if bits == 3 {
-        return eight::nearest(x, y);
-    }
-    holes::nearest_in(quadrants, bits, x, y)
 }
 
 // The nearest point of DQPSK.
@@ -62,8 +57,5 @@ fn is_upright(i: i16, q: i16) -> bool
 {
     let e = points::size(i);
     let f = points::size(q);
-    if e == f {
-        return axis::opposite(i, q);
-    }
-    e < f
+    e < f || e == f && axis::opposite(i, q)
 }

@@ -2,28 +2,29 @@
 ghost use Rattle.std.specs.Prelude.{◌≡◌, ◌≤◌, ◌<◌, ◌%◌};
 ghost use Rattle.nearest.specs.Axes.{lines_of, chosen_of, in_square};
 
-use crate::axis;
+use crate::axis::Axis;
 use points::Point;
 
-// The nearest point of so many bits.
-pub(crate) fn nearest(bits: u8, x: u16, y: u16) -> Point
-    requires { (2 ≤ bits) × (bits ≤ 10) × (bits % 2 ≡ 0) }
-    ensures { result ≡ in_square bits x y }
+// The nearest point.
+#[tactic(auto, unfolding(crate::specs::Axes::in_square))]
+pub(crate) fn nearest(axis: Axis, x: u16, y: u16) -> Point
+    requires { axis.bits % 2 ≡ 0 }
+    ensures { result ≡ in_square axis.bits x y }
 {
-    let w = axis::width(bits);
-    let lines = lines(bits);
+    let lines = lines(axis);
     Point::At {
-        i: axis::level(w, chosen(lines, w, x)),
-        q: axis::level(w, chosen(lines, w, y)),
+        i: axis.level(chosen(lines, axis, x)),
+        q: axis.level(chosen(lines, axis, y)),
     }
 }
 
 // Bit j says that the line before stretch j goes to the level before it, whose labels are lower.
-fn lines(bits: u8) -> u32
-    requires { (2 ≤ bits) × (bits ≤ 10) × (bits % 2 ≡ 0) }
-    ensures { result ≡ lines_of bits }
+#[tactic(auto, unfolding(crate::specs::Axes::lines_of))]
+fn lines(axis: Axis) -> u32
+    requires { axis.bits % 2 ≡ 0 }
+    ensures { result ≡ lines_of axis.bits }
 {
-    match bits {
+    match axis.bits {
         4 => 0x2,
         6 => 0x26,
         8 => 0x2636,
@@ -33,13 +34,12 @@ fn lines(bits: u8) -> u32
 }
 
 // The stretch to which x is decided.
-fn chosen(lines: u32, w: u16, x: u16) -> u16
-    requires { (2 ≤ w) × (w ≤ 32) }
-    ensures { (result ≡ chosen_of lines w x) × (result < w) }
+fn chosen(lines: u32, axis: Axis, x: u16) -> u16
+    ensures { (result ≡ chosen_of lines axis.width x) × (result < axis.width) }
 {
-    let j = axis::stretch(w, x);
+    let j = axis.stretch(x);
     if (lines >> j) % 2 == 1 {
-        return axis::beyond(w, x, j);
+        return axis.beyond(x, j);
     }
     j
 }

@@ -10,9 +10,9 @@ use lib.Dec.{T, eqb, eqb→eq}
 use lib.IntN.{ℤ, pos, negsuc, nat_abs}
 use borrow.Author.Tests.{eq-eqb, le-leb, not-true}
 use Rattle.ground.specs.First.{up_from}
+use Rattle.std.specs.Prelude.{Some, None}
 use Rattle.points.specs.declared.Point.{Point}
 use Rattle.points.specs.declared.Point.TheVariants.{Nothing}
-use Rattle.points.specs.declared.Label.TheVariants.{Of, Stray}
 use Rattle.points.specs.Constellations.{tables, columns, points, point_of, label_of, is_at, is_stray}
 use Rattle.points.specs.Lent.{parts_of, quarter_of, point_in, guess_in, label_in, read_in, confirmed, quarter_cells, word, words, our_cells, place_from, starts_from, quarter_lows, our_quadrants}
 use Rattle.points.specs.Sizes.{most_of, odd_of, Sized}
@@ -25,7 +25,7 @@ unlike : {A : Type 0} → true ≡ false → A
 unlike e = let z : ◌≡◌ {A = Bool} true false = e in absurd (subst T z tt)
 
 -- a guess that is not stray stands
-stands : (here : Bool) (g : ℕ) → is_stray (cond here (Of g) Stray) ≡ false → cond here (Of g) Stray ≡ Of g
+stands : (here : Bool) (g : ℕ) → is_stray (cond here (Some g) None) ≡ false → cond here (Some g) None ≡ Some g
 stands true g e = refl
 stands false g e = unlike e
 
@@ -56,11 +56,11 @@ module _ (n : ℕ) (i q : ℤ) (kept : is_stray (label_of n i q) ≡ false) wher
   unfolding read_in
   reads_guess = rw (le-leb 2 n known.0, le-leb n 10 known.1)
 
-pub read_label : (n : ℕ) (i q : ℤ) → is_stray (label_of n i q) ≡ false → label_of n i q ≡ Of (read_in our_quadrants n i q)
+pub read_label : (n : ℕ) (i q : ℤ) → is_stray (label_of n i q) ≡ false → label_of n i q ≡ Some (read_in our_quadrants n i q)
 unfolding label_in
 read_label n i q e =
     let g = guessed n i q e in
-    sym (label_ours n i q) ∙ stands (is_at (point_in our_cells n g) i q) g (kept_in n i q e) ∙ sym (ap Of (reads_guess n i q e))
+    sym (label_ours n i q) ∙ stands (is_at (point_in our_cells n g) i q) g (kept_in n i q e) ∙ sym (ap Some (reads_guess n i q e))
 
 -- ---- the sizes of a point's levels
 

@@ -1,5 +1,5 @@
 -- The laws of the crate, in the order in which they rest on each other.
-pub mod Signed
+pub mod Ours
 pub mod Places
 pub mod Lending
 pub mod Legal

@@ -11,10 +11,9 @@ use lib.Dec.{T, eqb, eqb→eq}
 use lib.IntN.{ℤ, pos, negsuc}
 use lib.ListN.{length, get_or, get_or-eq_default}
 use borrow.Author.Tests.{eq-eqb}
+use Rattle.std.specs.Prelude.{Option, Some, None}
 use Rattle.points.specs.declared.Point.{Point}
 use Rattle.points.specs.declared.Point.TheVariants.{At, Nothing}
-use Rattle.points.specs.declared.Label.{Label}
-use Rattle.points.specs.declared.Label.TheVariants.{Of, Stray}
 use Rattle.points.specs.Constellations.{same, is_at, next, label_at, level_i, level_q}
 use Rattle.points.specs.Lent.{confirmed}
 use Rattle.ground.proofs.Tests.{both, every, every_at}
@@ -42,26 +41,26 @@ is_at_lem Nothing i q e = let z : ◌≡◌ {A = Bool} false true = e in absurd 
 
 -- ---- the label of a point is a place at which it stands
 
-pub none_there : {A : Type 0} {l : ℕ} → Stray ≡ Of l → A
+pub none_there : {A : Type 0} {l : ℕ} → None ≡ Some l → A
 none_there e = let z : ◌≡◌ {A = ℕ} 0 1 = cc in absurd (omega arith)
 
 pub no_point : {A : Type 0} {i q : ℤ} → Nothing ≡ At i q → A
 no_point e = let z : ◌≡◌ {A = ℕ} 0 1 = cc in absurd (omega arith)
 
 stands : (p : Point) (ps : List Point) (i q : ℤ) (l : ℕ) →
-    ((m : ℕ) → label_at ps i q ≡ Of m → get_or ps m Nothing ≡ At i q) →
-    (here : Bool) → is_at p i q ≡ here → (rest : Label) → label_at ps i q ≡ rest →
-    cond here (Of 0) (next rest) ≡ Of l → get_or (p ∷ ps) l Nothing ≡ At i q
+    ((m : ℕ) → label_at ps i q ≡ Some m → get_or ps m Nothing ≡ At i q) →
+    (here : Bool) → is_at p i q ≡ here → (rest : Option ℕ) → label_at ps i q ≡ rest →
+    cond here (Some 0) (next rest) ≡ Some l → get_or (p ∷ ps) l Nothing ≡ At i q
 unfolding next
 stands p ps i q l later true h rest r e =
     let z : l ≡ 0 = cc in
     ap (λ (m : ℕ). get_or (p ∷ ps) m Nothing) z ∙ is_at_lem p i q h
-stands p ps i q l later false h (Of m) r e =
+stands p ps i q l later false h (Some m) r e =
     let z : l ≡ suc m = cc in
     ap (λ (m : ℕ). get_or (p ∷ ps) m Nothing) z ∙ later m r
-stands p ps i q l later false h Stray r e = none_there e
+stands p ps i q l later false h None r e = none_there e
 
-pub point_of_label : (ps : List Point) (i q : ℤ) (l : ℕ) → label_at ps i q ≡ Of l → get_or ps l Nothing ≡ At i q
+pub point_of_label : (ps : List Point) (i q : ℤ) (l : ℕ) → label_at ps i q ≡ Some l → get_or ps l Nothing ≡ At i q
 unfolding label_at
 point_of_label [] i q l e = none_there e
 point_of_label (p ∷ ps) i q l e =
@@ -75,13 +74,13 @@ in_list ps i q l e = by (dec_le (length ps) l)
     by (no h) = omega arith
 
 -- a point that stands somewhere has a label
-found : (p : Point) (i q : ℤ) (here : Bool) → is_at p i q ≡ here → (rest : Label) →
-    (m : ℕ) × (rest ≡ Of m) → (m : ℕ) × (cond here (Of 0) (next rest) ≡ Of m)
+found : (p : Point) (i q : ℤ) (here : Bool) → is_at p i q ≡ here → (rest : Option ℕ) →
+    (m : ℕ) × (rest ≡ Some m) → (m : ℕ) × (cond here (Some 0) (next rest) ≡ Some m)
 unfolding next
 found p i q true h rest r = (0, refl)
 found p i q false h rest r = (suc r.0, ap next r.1)
 
-has_label : (ps : List Point) (i q : ℤ) (l : ℕ) → get_or ps l Nothing ≡ At i q → (m : ℕ) × (label_at ps i q ≡ Of m)
+has_label : (ps : List Point) (i q : ℤ) (l : ℕ) → get_or ps l Nothing ≡ At i q → (m : ℕ) × (label_at ps i q ≡ Some m)
 unfolding label_at
 has_label [] i q l e = no_point e
 has_label (p ∷ ps) i q zero e = (0, rw (ap (λ (x : Point). is_at x i q) e ∙ at_itself i q))
@@ -113,20 +112,20 @@ module _ (g : ℤ → ℤ → ℕ) (ps : List Point) (right : Tells g ps) where
   unfolding Tells
   differ l m i q a b = sym (right l i q a) ∙ right m i q b
 
-  pub label_of_point : (l : ℕ) (i q : ℤ) → get_or ps l Nothing ≡ At i q → label_at ps i q ≡ Of l
+  pub label_of_point : (l : ℕ) (i q : ℤ) → get_or ps l Nothing ≡ At i q → label_at ps i q ≡ Some l
   label_of_point l i q e =
       let m = has_label ps i q l e in
-      m.1 ∙ ap Of (differ m.0 l i q (point_of_label ps i q m.0 m.1) e)
+      m.1 ∙ ap Some (differ m.0 l i q (point_of_label ps i q m.0 m.1) e)
 
   pub look_again : (i q : ℤ) → confirmed (get_or ps (g i q) Nothing) (g i q) i q ≡ label_at ps i q
   unfolding Tells
   look_again i q = by (is_at (get_or ps (g i q) Nothing) i q) refl (label_at ps i q) refl
     where
       by : (here : Bool) → is_at (get_or ps (g i q) Nothing) i q ≡ here →
-          (l : Label) → label_at ps i q ≡ l → cond here (Of (g i q)) Stray ≡ l
+          (l : Option ℕ) → label_at ps i q ≡ l → cond here (Some (g i q)) None ≡ l
       by true h l e = sym (label_of_point (g i q) i q (is_at_lem (get_or ps (g i q) Nothing) i q h)) ∙ e
-      by false h Stray e = refl
-      by false h (Of l) e =
+      by false h None e = refl
+      by false h (Some l) e =
           let p = point_of_label ps i q l e in
           let moved = ap (λ (m : ℕ). is_at (get_or ps m Nothing) i q) (right l i q p) in
           let z : ◌≡◌ {A = Bool} false true = sym h ∙ moved ∙ ap (λ (x : Point). is_at x i q) p ∙ at_itself i q in

@@ -10,9 +10,9 @@ use lib.IntN.{ℤ, neg_ℤ}
 use lib.ListN.{length, get_or}
 use lib.Pow.{pow-add}
 use borrow.Author.Tests.{eq-eqb, ne_eqb, le-leb}
+use Rattle.std.specs.Prelude.{Some}
 use Rattle.points.specs.declared.Point.{Point}
 use Rattle.points.specs.declared.Point.TheVariants.{At, Nothing}
-use Rattle.points.specs.declared.Label.TheVariants.{Of}
 use Rattle.points.specs.Constellations.{tables, columns, points, point_of, label_of, is_at, level_i, level_q}
 use Rattle.points.specs.Lent.{quarter_of, point_in, quarter_cells, word, words, our_cells}
 use Rattle.points.specs.Rules.{printed, square, squares, factors, walk, border, beside, round, times}
@@ -40,16 +40,16 @@ has_point n l a b h = some_point n l (subst (λ (m : ℕ). l < m) (sym (points_c
 
 -- ---- label to point to label, and point to label to point
 
-pub label_of_point : (n l : ℕ) (i q : ℤ) → point_of n l ≡ At i q → label_of n i q ≡ Of l
+pub label_of_point : (n l : ℕ) (i q : ℤ) → point_of n l ≡ At i q → label_of n i q ≡ Some l
 unfolding point_of label_of
 label_of_point n = places.label_of_point (guess n) (points n) (guess_tells n)
 
-pub point_of_label : (n l : ℕ) (i q : ℤ) → label_of n i q ≡ Of l → point_of n l ≡ At i q
+pub point_of_label : (n l : ℕ) (i q : ℤ) → label_of n i q ≡ Some l → point_of n l ≡ At i q
 unfolding point_of label_of
 point_of_label n l i q = places.point_of_label (points n) i q l
 
 -- the label of a point has n bits
-pub label_lt : (n l : ℕ) (i q : ℤ) → 2 ≤ n → n ≤ 10 → label_of n i q ≡ Of l → l < 2 ^ n
+pub label_lt : (n l : ℕ) (i q : ℤ) → 2 ≤ n → n ≤ 10 → label_of n i q ≡ Some l → l < 2 ^ n
 unfolding point_of
 label_lt n l i q a b e =
     subst (λ (m : ℕ). l < m) (points_count n a b) (in_list (points n) i q l (point_of_label n l i q e))

@@ -9,10 +9,9 @@ use native.Mathlib.Omega.{arith}
 use lib.Dec.{T, eqb, lit<}
 use lib.IntN.{ℤ, pos, negsuc, nat_abs}
 use lib.ListN.{length, get_or}
+use Rattle.std.specs.Prelude.{Option, Some, None}
 use Rattle.points.specs.declared.Point.{Point}
 use Rattle.points.specs.declared.Point.TheVariants.{At, Nothing}
-use Rattle.points.specs.declared.Label.{Label}
-use Rattle.points.specs.declared.Label.TheVariants.{Of, Stray}
 use Rattle.points.specs.Constellations.{label_at, next, label_number, is_at, is_stray, level_i, level_q}
 use Rattle.points.specs.Lent.{phase_read, confirmed}
 use Rattle.points.specs.Dqpsk.{table1, phases, turns, turn, dibit_to, phase_point, phase_of, turned_from, turned, dibits_from, dibits, phase_at, stray_at, after}
@@ -39,7 +38,7 @@ phase_again i q = look_again phase_read phases read_tells i q
 pub phase_read_lem : (i q : ℤ) → is_stray (phase_of i q) ≡ false → label_number (phase_of i q) ≡ phase_read i q
 phase_read_lem i q kept = ap label_number (sym (phase_again i q)) ∙ by (is_at (phase_point (phase_read i q)) i q) (ap is_stray (phase_again i q) ∙ kept)
   where
-    by : (there : Bool) → is_stray (cond there (Of (phase_read i q)) Stray) ≡ false → label_number (cond there (Of (phase_read i q)) Stray) ≡ phase_read i q
+    by : (there : Bool) → is_stray (cond there (Some (phase_read i q)) None) ≡ false → label_number (cond there (Some (phase_read i q)) None) ≡ phase_read i q
     by true e = refl
     by false e = absurd (true≢false e)
 
@@ -60,7 +59,7 @@ single_legal (negsuc zero) (pos (suc m)) e = absurd (omega arith)
 single_legal (negsuc zero) (negsuc m) e = absurd (omega arith)
 single_legal (negsuc (suc n)) q e = absurd (omega arith)
 
-point_of_phase : (i q : ℤ) (phase : ℕ) → phase_of i q ≡ Of phase → phase_point phase ≡ At i q
+point_of_phase : (i q : ℤ) (phase : ℕ) → phase_of i q ≡ Some phase → phase_point phase ≡ At i q
 unfolding phase_point phase_of
 point_of_phase i q phase e = point_of_label phases i q phase e
 
@@ -100,7 +99,7 @@ turn_dibit = pairs_equal (λ p r. turn p (dibit_to p r)) (λ p r. r) forth_test
 
 -- ---- a frame's bits, turned into points and read back
 
-phase_of_point : (phase : ℕ) → phase < 4 → phase_of (level_i (phase_point phase)) (level_q (phase_point phase)) ≡ Of phase
+phase_of_point : (phase : ℕ) → phase < 4 → phase_of (level_i (phase_point phase)) (level_q (phase_point phase)) ≡ Some phase
 unfolding phase_of phase_point phases label_at next
 phase_of_point zero h = refl
 phase_of_point (suc zero) h = refl
@@ -132,27 +131,27 @@ dibits-turned bits m e each = dibits_turned_from bits m 0 (lit< tt) e each
 
 -- ---- legal points, read and turned again
 
-phase_lt : (i q : ℤ) (phase : ℕ) → phase_of i q ≡ Of phase → phase < 4
+phase_lt : (i q : ℤ) (phase : ℕ) → phase_of i q ≡ Some phase → phase < 4
 unfolding phase_of phases
 phase_lt i q phase e = in_list phases i q phase (point_of_label phases i q phase e)
 
 -- the legal point of a phase
-legal : (p : Point) (phase : ℕ) → phase_of (level_i p) (level_q p) ≡ Of phase → phase_point phase ≡ p
+legal : (p : Point) (phase : ℕ) → phase_of (level_i p) (level_q p) ≡ Some phase → phase_point phase ≡ p
 unfolding phase_of phases label_at next
 legal (At i q) phase e = point_of_phase i q phase e
 legal Nothing phase e = none_there e
 
 step : (p : Point) (ps : List Point) (phase : ℕ) → phase < 4 →
     ((to : ℕ) → to < 4 → stray_at ps ≡ length ps → turned_from to (dibits_from to ps) ≡ ps) →
-    (l : Label) → phase_of (level_i p) (level_q p) ≡ l → cond (is_stray l) 0 (suc (stray_at ps)) ≡ suc (length ps) →
+    (l : Option ℕ) → phase_of (level_i p) (level_q p) ≡ l → cond (is_stray l) 0 (suc (stray_at ps)) ≡ suc (length ps) →
     turned_from phase (dibits_from phase (p ∷ ps)) ≡ p ∷ ps
 unfolding turned_from dibits_from
-step p ps phase h later (Of to) r e =
+step p ps phase h later (Some to) r e =
     let k = phase_lt (level_i p) (level_q p) to r in
     let d = dibit_to phase to in
     let whole : 2 * (d / 2) + d % 2 ≡ d = omega arith in
     rw (r, whole, turn_dibit phase to h k, legal p to r, later to k (omega arith))
-step p ps phase h later Stray r e = absurd (omega arith)
+step p ps phase h later None r e = absurd (omega arith)
 
 turned_dibits_from : (ps : List Point) (phase : ℕ) → phase < 4 → stray_at ps ≡ length ps →
     turned_from phase (dibits_from phase ps) ≡ ps
@@ -224,12 +223,12 @@ dibits_bits_from (p ∷ ps) phase =
 
 -- ---- the first stray point
 
-stray : (l : Label) → is_stray l ≡ true → l ≡ Stray
-stray (Of phase) e = absurd (true≢false (sym e))
-stray Stray e = refl
+stray : (l : Option ℕ) → is_stray l ≡ true → l ≡ None
+stray (Some phase) e = absurd (true≢false (sym e))
+stray None e = refl
 
 -- unless it is the number of points, a stray point stands at stray_at
-pub stray_there : (ps : List Point) → stray_at ps < length ps → phase_at ps (stray_at ps) ≡ Stray
+pub stray_there : (ps : List Point) → stray_at ps < length ps → phase_at ps (stray_at ps) ≡ None
 stray_there ps h = stray _ ((first _ Nothing ps).there h)
 
 -- and none before it

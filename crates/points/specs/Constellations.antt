@@ -1,11 +1,9 @@
 -- The nine constellations of Annex B: the point of a label and the label of a point, for n bits per point.
 -- A table's left column and then its right has the labels in rising order, so that a point's label is its place.
-use Rattle.std.specs.Prelude.{ℕ, suc, Bool, true, false, cond, ◌&&◌, List, [], ◌∷◌, ◌++◌, map, eqb, ℤ, pos, negsuc, get_or}
+use Rattle.std.specs.Prelude.{ℕ, suc, Bool, true, false, cond, ◌&&◌, List, [], ◌∷◌, ◌++◌, map, eqb, ℤ, pos, negsuc, get_or, Option, Some, None}
 use Rattle.points.specs.AnnexB.{Row, table_b1, table_b2, table_b3, table_b4, table_b5, table_b6, table_b7, table_b8, table_b9}
 use Rattle.points.specs.declared.Point.{Point}
 use Rattle.points.specs.declared.Point.TheVariants.{At, Nothing}
-use Rattle.points.specs.declared.Label.{Label}
-use Rattle.points.specs.declared.Label.TheVariants.{Of, Stray}
 
 -- the table of n bits per point, for n from 0: there is none of 0 and of 1 bits
 unfoldable pub tables : List (List Row)
@@ -36,17 +34,17 @@ is_at (At x y) i q = same x i && same y q
 is_at Nothing i q = false
 
 -- one place on
-unfoldable pub next : Label → Label
-next (Of l) = Of (suc l)
-next Stray = Stray
+unfoldable pub next : Option ℕ → Option ℕ
+next (Some l) = Some (suc l)
+next None = None
 
 -- the place at which (i, q) first stands in a list of points
-unfoldable pub label_at : List Point → ℤ → ℤ → Label
-label_at [] i q = Stray
-label_at (p ∷ ps) i q = cond (is_at p i q) (Of 0) (next (label_at ps i q))
+unfoldable pub label_at : List Point → ℤ → ℤ → Option ℕ
+label_at [] i q = None
+label_at (p ∷ ps) i q = cond (is_at p i q) (Some 0) (next (label_at ps i q))
 
 -- the label of n bits of (i, q)
-unfoldable pub label_of : ℕ → ℤ → ℤ → Label
+unfoldable pub label_of : ℕ → ℤ → ℤ → Option ℕ
 label_of n i q = label_at (points n) i q
 
 -- the levels of a point: where there is none, both are 0
@@ -59,10 +57,10 @@ level_q (At i q) = q
 level_q Nothing = pos 0
 
 -- the number of a label: of a stray point it is 0
-abbrev pub label_number : Label → ℕ
-label_number (Of l) = l
-label_number Stray = 0
+abbrev pub label_number : Option ℕ → ℕ
+label_number (Some l) = l
+label_number None = 0
 
-abbrev pub is_stray : Label → Bool
-is_stray (Of l) = false
-is_stray Stray = true
+abbrev pub is_stray : Option ℕ → Bool
+is_stray (Some l) = false
+is_stray None = true

@@ -1,9 +1,8 @@
 -- DQPSK, clause 6.4.2: each dibit turns the last point by quarter turns.
-use Rattle.std.specs.Prelude.{ℕ, ◌+◌, ◌-◌, ◌*◌, ◌/◌, ◌%◌, List, [], ◌∷◌, ℤ, pos, negsuc, get_or}
+use Rattle.std.specs.Prelude.{ℕ, ◌+◌, ◌-◌, ◌*◌, ◌/◌, ◌%◌, List, [], ◌∷◌, ℤ, pos, negsuc, get_or, Option}
 use Rattle.ground.specs.First.{first_in}
 use Rattle.points.specs.declared.Point.{Point}
 use Rattle.points.specs.declared.Point.TheVariants.{At, Nothing}
-use Rattle.points.specs.declared.Label.{Label}
 use Rattle.points.specs.Constellations.{label_at, label_number, is_stray, level_i, level_q}
 
 -- the four points, by their names in Table 1
@@ -49,7 +48,7 @@ unfoldable pub phase_point : ℕ → Point
 phase_point phase = get_or phases phase Nothing
 
 -- the phase of a point
-unfoldable pub phase_of : ℤ → ℤ → Label
+unfoldable pub phase_of : ℤ → ℤ → Option ℕ
 phase_of i q = label_at phases i q
 
 -- the point after p, for a dibit
@@ -83,7 +82,7 @@ dibits ps = dibits_from 0 ps
 -- ---- the first stray point
 
 -- the phase of the point at a place
-abbrev pub phase_at : List Point → ℕ → Label
+abbrev pub phase_at : List Point → ℕ → Option ℕ
 phase_at ps k = phase_of (level_i (get_or ps k Nothing)) (level_q (get_or ps k Nothing))
 
 -- the place of the first point that is none of the four phases; the number of points where there is none

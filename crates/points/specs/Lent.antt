@@ -1,14 +1,12 @@
--- How the code reads: what the functions that are lent tables answer, whatever they are lent, and the tables that are ours to lend.
+-- How the code reads: by a table of cells and one of quadrants, said over any two such tables, and the two that are ours, which the code reads.
 -- With ours it comes to `point_of` and `label_of` (proofs/Lending.antt), so that nobody has to believe anything here.
 -- But for 8QAM a label's first two bits are the signs of I and Q, and the rest, the low bits, stand for a cell:
 -- cell 16x + y has the levels 2x + 1 and 2y + 1. So a quarter of each table of Annex B says it all.
-use Rattle.std.specs.Prelude.{ℕ, zero, suc, ◌+◌, ◌-◌, ◌*◌, ◌/◌, ◌%◌, ◌^◌, cond, ◌&&◌, List, [], ◌∷◌, ◌++◌, map, eqb, leb, ltb, ℤ, pos, negsuc, get_or, take, drop}
+use Rattle.std.specs.Prelude.{ℕ, zero, suc, ◌+◌, ◌-◌, ◌*◌, ◌/◌, ◌%◌, ◌^◌, cond, ◌&&◌, List, [], ◌∷◌, ◌++◌, map, eqb, leb, ltb, ℤ, pos, negsuc, get_or, take, drop, Option, Some, None}
 use Rattle.std.specs.Int.Signed.{mag}
 use Rattle.ground.specs.First.{up_from}
 use Rattle.points.specs.declared.Point.{Point}
 use Rattle.points.specs.declared.Point.TheVariants.{At, Nothing}
-use Rattle.points.specs.declared.Label.{Label}
-use Rattle.points.specs.declared.Label.TheVariants.{Of, Stray}
 use Rattle.points.specs.declared.level.Parts.{Parts}
 use Rattle.points.specs.Constellations.{points, point_of, is_at, level_i, level_q}
 
@@ -84,11 +82,11 @@ unfoldable pub phase_read : ℤ → ℤ → ℕ
 phase_read i q = phase_guess (parts_of i) (parts_of q)
 
 -- the label guessed for (i, q), if p, the point of that label, is (i, q)
-abbrev pub confirmed : Point → ℕ → ℤ → ℤ → Label
-confirmed p guess i q = cond (is_at p i q) (Of guess) Stray
+abbrev pub confirmed : Point → ℕ → ℤ → ℤ → Option ℕ
+confirmed p guess i q = cond (is_at p i q) (Some guess) None
 
 -- the label of n bits of (i, q), by both tables
-unfoldable pub label_in : List ℕ → List ℕ → ℕ → ℤ → ℤ → Label
+unfoldable pub label_in : List ℕ → List ℕ → ℕ → ℤ → ℤ → Option ℕ
 label_in cells quadrants n i q =
     let guess = guess_in quadrants n (parts_of i) (parts_of q) in
     confirmed (point_in cells n guess) guess i q

@@ -1,106 +1,41 @@
 // The nine constellations of Annex B, for 2 to 10 bits per point: from label to point, and from point to label.
-// Both are table reads. The forms that end in `_in` are lent the tables.
-ghost use Rattle.std.specs.Prelude.{◌≡◌, ◌≤◌};
+// Both are table reads.
+ghost use Rattle.std.specs.Prelude.{◌≡◌};
 ghost use Rattle.points.specs.Constellations.{point_of, label_of};
-ghost use Rattle.points.specs.Lent.{point_in, guess_in, label_in, read_in, our_cells, our_quadrants};
+ghost use Rattle.points.specs.Lent.{read_in, our_quadrants};
 
-use crate::level::Parts;
-use crate::{Label, Point, eight, level, look, quarter, tables};
+use crate::quarter::Quarter;
+use crate::{Point, eight, level, look};
 
 // The point of a label of so many bits: nothing, unless they are 2 to 10 and hold the label.
+#[tactic(auto, using(crate::proofs::Lending::point_by_quarter, crate::proofs::Lending::point_of_few, crate::proofs::Lending::point_of_many))]
 pub fn point(bits: u8, label: u16) -> Point
     ensures { result ≡ point_of bits label }
 {
-    let cells = cells();
-    point_in(&cells, bits, label)
+    match bits {
+        3 => eight::point(label),
+        2..=10 => Quarter { bits }.point(label),
+        _ => Point::Nothing,
+    }
 }
 
-// The label of so many bits of (i, q), or that it is stray.
-pub fn label(bits: u8, i: i16, q: i16) -> Label
+// The label of so many bits of (i, q): none, where the point is stray, which is none of its constellation.
+pub fn label(bits: u8, i: i16, q: i16) -> Option<u16>
     ensures { result ≡ label_of bits i q }
 {
-    let cells = cells();
-    let quadrants = quadrants();
-    label_in(&cells, &quadrants, bits, i, q)
+    let guess = read(bits, i, q);
+    look::confirmed(point(bits, guess), guess, i, q)
 }
 
-// The first table to lend.
-pub fn cells() -> [u64; 64]
-    ensures { result ≡ our_cells }
+// The label of so many bits that (i, q) is read as, without a look whether the point is of the constellation.
+#[inline]
+#[tactic(auto, unfolding(crate::specs::Lent::read_in, crate::specs::Lent::guess_in))]
+pub fn read(bits: u8, i: i16, q: i16) -> u16
+    ensures { result ≡ read_in our_quadrants bits i q }
 {
-    tables::CELLS
-}
-
-// The second table to lend.
-pub fn quadrants() -> [u64; 128]
-    ensures { result ≡ our_quadrants }
-{
-    tables::QUADRANTS
-}
-
-// The point of a label of so many bits, by the table that is lent.
-pub fn point_in(cells: &[u64; 64], bits: u8, label: u16) -> Point
-    ensures { result ≡ point_in cells.now bits label }
-{
-    if bits < 2 {
-        return Point::Nothing;
+    match bits {
+        3 => eight::guess(level::apart(i), level::apart(q)),
+        2..=10 => Quarter { bits }.guess(level::apart(i), level::apart(q)),
+        _ => 0,
     }
-    if 10 < bits {
-        return Point::Nothing;
-    }
-    if bits == 3 {
-        return eight::point(label);
-    }
-    quarter::point_in(cells, bits, label)
-}
-
-// The label of so many bits of (i, q), by the tables that are lent, or that it is stray.
-pub fn label_in(cells: &[u64; 64], quadrants: &[u64; 128], bits: u8, i: i16, q: i16) -> Label
-    ensures { result ≡ label_in cells.now quadrants.now bits i q }
-{
-    if bits < 2 {
-        return Label::Stray;
-    }
-    if 10 < bits {
-        return Label::Stray;
-    }
-    let guess = guess_in(quadrants, bits, level::apart(i), level::apart(q));
-    look::confirmed(point_in(cells, bits, guess), guess, i, q)
-}
-
-// The label of so many bits that (i, q) is read as, by the table that is lent, without a look whether the point is of the constellation.
-pub fn read_in(quadrants: &[u64; 128], bits: u8, i: i16, q: i16) -> u16
-    ensures { result ≡ read_in quadrants.now bits i q }
-{
-    if bits < 2 {
-        return 0;
-    }
-    if 10 < bits {
-        return 0;
-    }
-    guess_in(quadrants, bits, level::apart(i), level::apart(q))
-}
-
-// The same, for whoever reads few labels: so a loop over points has `read_in` to itself, and the compiler puts it there.
-pub fn label_read(quadrants: &[u64; 128], bits: u8, i: i16, q: i16) -> u16
-    ensures { result ≡ read_in quadrants.now bits i q }
-{
-    if bits < 2 {
-        return 0;
-    }
-    if 10 < bits {
-        return 0;
-    }
-    guess_in(quadrants, bits, level::apart(i), level::apart(q))
-}
-
-// The one label of so many bits that (i, q) can have.
-fn guess_in(quadrants: &[u64; 128], bits: u8, i: Parts, q: Parts) -> u16
-    requires { (2 ≤ bits) × (bits ≤ 10) }
-    ensures { result ≡ guess_in quadrants.now bits i q }
-{
-    if bits == 3 {
-        return eight::guess(i, q);
-    }
-    quarter::guess_in(quadrants, bits, i, q)
 }

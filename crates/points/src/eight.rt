@@ -6,28 +6,25 @@ ghost use Rattle.points.specs.Lent.{side, eight_guess};
 use crate::Point;
 use crate::level::Parts;
 
-const POINTS: [Point; 8] = [
-    Point::At { i: 2, q: 2 },
-    Point::At { i: 2, q: 0 },
-    Point::At { i: 0, q: -2 },
-    Point::At { i: 2, q: -2 },
-    Point::At { i: 0, q: 2 },
-    Point::At { i: -2, q: 2 },
-    Point::At { i: -2, q: -2 },
-    Point::At { i: -2, q: 0 },
-];
-
 // The labels by rows and columns, which stand for the levels 0, 2 and -2 of I and Q.
 const SIDES: [[u16; 3]; 3] = [[0, 4, 2], [1, 0, 3], [7, 5, 6]];
 
 // The point of a label.
+#[tactic(auto, unfolding(crate::specs::Constellations::point_of, crate::specs::Constellations::points, crate::specs::Constellations::columns, crate::specs::Constellations::tables))]
 pub(crate) fn point(label: u16) -> Point
     ensures { result ≡ point_of 3 label }
 {
-    if 8 <= label {
-        return Point::Nothing;
+    match label {
+        0 => Point::At { i: 2, q: 2 },
+        1 => Point::At { i: 2, q: 0 },
+        2 => Point::At { i: 0, q: -2 },
+        3 => Point::At { i: 2, q: -2 },
+        4 => Point::At { i: 0, q: 2 },
+        5 => Point::At { i: -2, q: 2 },
+        6 => Point::At { i: -2, q: -2 },
+        7 => Point::At { i: -2, q: 0 },
+        _ => Point::Nothing,
     }
-    POINTS[label as usize]
 }
 
 // The one label that (i, q) can have.

@@ -1,6 +1,5 @@
 // Levels, taken apart into sign and size and put together again: all signed arithmetic is here.
-ghost use Rattle.std.specs.Prelude.{◌≡◌, ◌<◌};
-ghost use Rattle.points.specs.Constellations.{same};
+ghost use Rattle.std.specs.Prelude.{◌≡◌};
 ghost use Rattle.points.specs.Lent.{parts_of, level_of};
 
 // A level's sign, 1 where it is negative, and its size: n both for n and for -(n + 1).
@@ -30,23 +29,9 @@ pub(crate) fn apart(x: i16) -> Parts
 pub(crate) fn level(sign: u16, h: u8) -> i16
     ensures { result ≡ level_of sign h }
 {
-    let twice = 2 * (h as u16);
+    let twice = 2 * u16::from(h);
     if sign == 0 {
         return (twice + 1) as i16;
     }
     -1 - (twice as i16)
-}
-
-// Whether two levels are the same.
-pub(crate) fn same(x: i16, y: i16) -> bool
-    ensures { result ≡ same x y }
-{
-    x == y
-}
-
-// A table's byte, as a label or a phase is counted.
-pub(crate) fn wide(x: u8) -> u16
-    ensures { (result ≡ x) × (result < 256) }
-{
-    x as u16
 }

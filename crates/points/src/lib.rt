@@ -3,7 +3,7 @@
 #![tactic(auto)]
 
 ghost use Rattle.std.specs.Prelude.{◌≡◌, nat_abs};
-ghost use Rattle.points.specs.Constellations.{level_i, level_q, label_number, is_stray};
+ghost use Rattle.points.specs.Constellations.{level_i, level_q};
 
 pub mod constellation;
 pub mod dqpsk;
@@ -14,17 +14,11 @@ mod quarter;
 mod tables;
 
 // The point of a label: its levels I and Q, or nothing where there is no such label.
-#[derive(Clone, Copy)]
+// An `Option` in shape: `Some(Point { i, q })` would be no plainer in the tables of Annex B, nor where a level is read.
+#[derive(Clone, Copy, Debug, PartialEq, Eq)]
 pub enum Point {
     At { i: i16, q: i16 },
     Nothing,
-}
-
-// The label of a point, or that the point is stray: none of its constellation.
-#[derive(Clone, Copy)]
-pub enum Label {
-    Of(u16),
-    Stray,
 }
 
 // The level I of a point: 0 where there is none.
@@ -47,32 +41,9 @@ pub fn level_q(point: Point) -> i16
     }
 }
 
-// Whether a label says that the point is stray.
-pub fn is_stray(label: Label) -> bool
-    ensures { result ≡ is_stray label }
-{
-    match label {
-        Label::Of(_) => false,
-        Label::Stray => true,
-    }
-}
-
-// The number that a label says: 0 where the point is stray.
-pub fn label_number(label: Label) -> u16
-    ensures { result ≡ label_number label }
-{
-    match label {
-        Label::Of(number) => number,
-        Label::Stray => 0,
-    }
-}
-
 // The size of a level.
 pub fn size(level: i16) -> u16
     ensures { result ≡ nat_abs level }
 {
-    if level < 0 {
-        return (-1 - level) as u16 + 1;
-    }
-    level as u16
+    level.unsigned_abs()
 }

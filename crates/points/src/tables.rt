@@ -2,7 +2,7 @@
 // The two digits of a cell 0xXY stand for the levels 2X + 1 and 2Y + 1.
 
 // The cell of low bits l, at n bits per point: byte 2^(n-2) + l.
-pub const CELLS: [u64; 64] = [
+pub(crate) static CELLS: [u64; 64] = [
     // nothing, QPSK, 8QAM, 16QAM
     0x0000_1110_1110_0100,
     // 32QAM
@@ -78,7 +78,7 @@ pub const CELLS: [u64; 64] = [
 
 // The quadrants of positive levels, sixteen bytes to a level of I: byte 16X + Y has the low bits of cell 0xXY, and 0
 // where no point stands. The first sixteen bytes say in which of these rows the quadrant of n bits starts.
-pub const QUADRANTS: [u64; 128] = [
+pub(crate) static QUADRANTS: [u64; 128] = [
     // where each quadrant starts, by n
     0x0101_0102_0204_070b,
     0x1119_2500_0000_0000,

@@ -5,7 +5,7 @@
 
 ghost use Rattle.streams.specs.Streams.{Grows};
 
-use points::{Label, Point, constellation};
+use points::{Point, constellation};
 use std::io;
 use std::io::Write;
 
@@ -32,32 +32,21 @@ fn write_point<W: Write>(point: Point, to: &mut W) -> io::Result<()>
     ensures { Grows (W.contents to.old) (W.contents to.new) }
 {
     match point {
-        Point::At { i, q } => write_levels(complement(i), complement(q), to),
+        Point::At { i, q } => {
+            let [i_low, i_high] = i.to_le_bytes();
+            let [q_low, q_high] = q.to_le_bytes();
+            streams::write_whole(to, &[i_low, i_high, q_low, q_high])
+        }
         Point::Nothing => Ok(()),
     }
-}
-
-fn write_levels<W: Write>(i: u16, q: u16, to: &mut W) -> io::Result<()>
-    ensures { Grows (W.contents to.old) (W.contents to.new) }
-{
-    let out = [low(i), high(i), low(q), high(q)];
-    streams::write_whole(to, &out)
-}
-
-// The level's two's complement.
-fn complement(v: i16) -> u16 {
-    if v < 0 {
-        return 65535 - ((-1 - v) as u16);
-    }
-    v as u16
 }
 
 // The labels of so many bits of all points near the middle.
 fn write_labels<W: Write>(bits: u8, to: &mut W) -> io::Result<()>
     ensures { Grows (W.contents to.old) (W.contents to.new) }
 {
-    for x in 0..81usize {
-        write_row(bits, level(x), to)?;
+    for i in -40..=40i16 {
+        write_row(bits, i, to)?;
     }
     Ok(())
 }
@@ -65,37 +54,12 @@ fn write_labels<W: Write>(bits: u8, to: &mut W) -> io::Result<()>
 fn write_row<W: Write>(bits: u8, i: i16, to: &mut W) -> io::Result<()>
     ensures { Grows (W.contents to.old) (W.contents to.new) }
 {
-    let mut out = [0u8; 162];
-    for y in 0..81usize {
-        let v = number(constellation::label(bits, i, level(y)));
-        out[y * 2] = low(v);
-        out[y * 2 + 1] = high(v);
+    let mut row = [0u8; 162];
+    for k in 0..81usize {
+        let label = constellation::label(bits, i, k as i16 - 40).unwrap_or(65535);
+        let [low, high] = label.to_le_bytes();
+        row[2 * k] = low;
+        row[2 * k + 1] = high;
     }
-    streams::write_whole(to, &out)
-}
-
-// The level at a place from 0 to 80.
-fn level(place: usize) -> i16 {
-    if place < 40 {
-        return -1 - ((39 - place) as i16);
-    }
-    if place < 81 {
-        return (place - 40) as i16;
-    }
-    0
-}
-
-fn number(label: Label) -> u16 {
-    match label {
-        Label::Of(l) => l,
-        Label::Stray => 65535,
-    }
-}
-
-fn low(v: u16) -> u8 {
-    (v % 256) as u8
-}
-
-fn high(v: u16) -> u8 {
-    (v / 256) as u8
+    streams::write_whole(to, &row)
 }

@@ -12,11 +12,8 @@ use Rattle.bits.specs.Words.{Bits, digits}
 use Rattle.bits.proofs.Digits.{bits_append, digits_bits}
 use Rattle.points.specs.declared.Point.{Point}
 use Rattle.points.specs.declared.Point.TheVariants.{Nothing}
-use Rattle.points.specs.declared.Label.{Label}
-use Rattle.points.specs.declared.Label.TheVariants.{Stray}
-use Rattle.points.specs.Constellations.{label_of, label_number}
-use Rattle.points.specs.Lent.{label_in, our_cells, our_quadrants}
-use Rattle.points.proofs.Lending.{label_ours}
+use Rattle.std.specs.Prelude.{Option, None}
+use Rattle.points.specs.Constellations.{label_number}
 use Rattle.symbols.specs.Grids.{point_at, received, index_of}
 use Rattle.symbols.proofs.Readings.{length-received, received_at}
 use Rattle.symbols.specs.Schemes.{repeated, point_label, labelled, Scheme}
@@ -48,13 +45,8 @@ bits_labelled (n ∷ ns) (p ∷ ps) = bits_append (digits n _) (labelled ns ps) 
 
 -- ---- the labels of points, one by one
 
--- a label looked up in our tables is that of the point (i, q), which the code holds as x and y
-pub label_read : {cells quadrants : List ℕ} → cells ≡ our_cells → quadrants ≡ our_quadrants → (n : ℕ) (x y i q : ℤ) → x ≡ i → y ≡ q → {r : Label}
-    → r ≡ label_in cells quadrants n x y → r ≡ label_of n i q
-label_read ec eq n x y i q ei ej e = rw (ec, eq, ei, ej) at e ∙ label_ours n i q
-
 label_at : (ns : List ℕ) (ps : List Point) (i : ℕ) → i < length ns → i < length ps
-    → get_or (zip_with point_label ns ps) i Stray ≡ point_label (get_or ns i 0) (get_or ps i Nothing)
+    → get_or (zip_with point_label ns ps) i None ≡ point_label (get_or ns i 0) (get_or ps i Nothing)
 unfolding zip_with
 label_at [] ps i h k = absurd (omega arith)
 label_at (n ∷ ns) [] i h k = absurd (omega arith)
@@ -63,13 +55,13 @@ label_at (n ∷ ns) (p ∷ ps) (suc i) h k = label_at ns ps i (omega arith) (ome
 
 -- those of m OFDM symbols
 module _ {scheme : List ℕ} (good : Scheme scheme) (m : ℕ) (is qs : List ℤ) where
-  abbrev pub labels : List Label
+  abbrev pub labels : List (Option ℕ)
   labels = zip_with point_label (repeated m scheme) (received m is qs)
 
   pub labels_long : length labels ≡ 210 * m
   labels_long = length-zip_with point_label _ _ (sym (as_many scheme good.long m is qs)) ∙ repeated_long scheme good.long m
 
-  pub labels_at : (place : ℕ) → place < 210 * m → get_or labels place Stray ≡ point_label (get_or scheme (place % 210) 0) (point_at is qs (index_of place))
+  pub labels_at : (place : ℕ) → place < 210 * m → get_or labels place None ≡ point_label (get_or scheme (place % 210) 0) (point_at is qs (index_of place))
   labels_at place l =
       let entry : get_or (repeated m scheme) place 0 ≡ get_or scheme (place % 210) 0 = rw good.long at (get_or-repeated scheme m place (rw good.long l)) in
       label_at _ _ place (omega (arith, repeated_long scheme good.long m)) (omega (arith, length-received m is qs))

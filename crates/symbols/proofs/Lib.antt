@@ -12,6 +12,7 @@ pub mod Labelled
 pub mod Ors
 pub mod Faults
 pub mod Looks
+pub mod Strays
 pub mod ReadBits
 pub mod Fronts
 pub mod Joins

@@ -5,30 +5,27 @@ use mathlib.Core.Bool.{Bool, false}
 use mathlib.Core.List.{List}
 use Prim.Native.Nat.{ℕ, suc, ◌+◌, ◌-◌, ◌*◌, ◌/◌, ◌%◌, ◌≤◌, ◌<◌}
 use native.Mathlib.Decide.{dec_le}
+use native.Mathlib.Nat.{zero-add}
 use native.Mathlib.Omega.{arith}
 use lib.IntN.{ℤ, pos, nat_abs}
 use lib.ListN.{length, get_or, take, drop, length-drop}
 use lib.Seq.{get_or-take, get_or-drop, length-take-le}
-use Rattle.ground.proofs.Firsts.{first_none}
-use Rattle.points.specs.declared.Point.{Point}
-use Rattle.points.specs.declared.Point.TheVariants.{Nothing}
-use Rattle.points.specs.declared.Label.TheVariants.{Stray}
-use Rattle.points.specs.Constellations.{label_of, is_stray, level_i, level_q}
-use Rattle.points.specs.Dqpsk.{phase_of, stray_at}
+use Rattle.ground.specs.First.{up_from}
+use Rattle.ground.proofs.Firsts.{first_none, length_up, up_at}
+use Rattle.points.specs.Constellations.{label_of, is_stray}
 use Rattle.points.specs.Sizes.{Sized}
 use Rattle.points.proofs.Legal.{sized_legal}
-use Rattle.points.proofs.Turns.{single_legal}
 use Rattle.symbols.specs.declared.Carrier.{Carrier}
 use Rattle.symbols.specs.declared.Carrier.TheVariants.{Holds, Empty}
 use Rattle.symbols.specs.Grid.{carrier_at, carrier_of}
-use Rattle.symbols.specs.Grids.{received, index_of, occupied, occupied_at, first_occupied}
-use Rattle.symbols.specs.Schemes.{Scheme, repeated, stray_in}
-use Rattle.symbols.specs.Quick.{Passed, PassedBy, PassedAll, Half, Zeros, EmptyFrom, Seen, Single}
+use Rattle.symbols.specs.Grids.{index_of, occupied, occupied_at, first_occupied}
+use Rattle.symbols.specs.Faults.{stray_by, first_stray}
+use Rattle.symbols.specs.Schemes.{Scheme}
+use Rattle.symbols.specs.Quick.{Passed, PassedBy, Zeros, EmptyFrom, Seen, Legal}
 use Rattle.symbols.proofs.Placement.{carrier_low, carrier_high, carrier_of_low, carrier_of_high}
 use Rattle.symbols.proofs.Indices.{carrier_of-lt}
-use Rattle.symbols.proofs.Readings.{length-received, received_at, none_occupied}
+use Rattle.symbols.proofs.Readings.{none_occupied}
 use Rattle.symbols.proofs.Schemes.{entry_in}
-use Rattle.symbols.proofs.Labelled.{labels, labels_long, labels_at}
 
 -- ---- parts of lists, as the code takes them
 
@@ -41,26 +38,11 @@ part_zeros xs from end l zeros k a b =
     let long : length (take (end - from) (drop from xs)) ≡ end - from = length-take-le (end - from) (drop from xs) (rw length-drop (omega arith)) in
     ap (λ (j : ℕ). get_or xs j (pos 0)) (sym e) ∙ sym (part_at xs from (end - from) (k - from) (pos 0) (omega arith)) ∙ zeros (k - from) (omega arith)
 
--- 105 entries of a scheme, from `row` on
-pub part_half : {scheme : List ℕ} → Scheme scheme → (row : ℕ) → row + 105 ≤ 210 → Half (take 105 (drop row scheme))
-part_half {scheme} good row h = record {
-  long = length-take-le 105 (drop row scheme) (rw length-drop (omega (arith, good.long)));
-  each = λ s l. rw (part_at scheme row 105 s 0 l) (entry_in good (row + s) (omega arith));
-}
-
--- what passes by them passes by the scheme
-pub part_passed : (scheme : List ℕ) (is qs : List ℤ) (row k : ℕ) → PassedAll (take 105 (drop row scheme)) (take 105 (drop k is)) (take 105 (drop k qs))
-    → (s : ℕ) → s < 105 → PassedBy scheme (row + s) (get_or is (k + s) (pos 0)) (get_or qs (k + s) (pos 0))
-part_passed scheme is qs row k all s h =
-    rw (part_at scheme row 105 s 0 h, part_at is k 105 s (pos 0) h, part_at qs k 105 s (pos 0) h) at (all s h)
-
--- the levels of points on the sub-carriers from k to before `end`
-pub part_single : (is qs : List ℤ) (k end : ℕ) → end ≤ length is
-    → ((s : ℕ) → s < length (take (end - k) (drop k is)) → Single s (get_or (take (end - k) (drop k is)) s (pos 0)) (get_or (take (end - k) (drop k qs)) s (pos 0)))
-    → (s : ℕ) → s < end - k → Single s (get_or is (k + s) (pos 0)) (get_or qs (k + s) (pos 0))
-part_single is qs k end l all s h =
-    let long : length (take (end - k) (drop k is)) ≡ end - k = length-take-le (end - k) (drop k is) (rw length-drop (omega arith)) in
-    rw (part_at is k (end - k) s (pos 0) h, part_at qs k (end - k) s (pos 0) h) at (all s (omega arith))
+-- 105 points on the sub-carriers from k on
+pub part_held : (P : ℕ → ℤ → ℤ → Type 0) (is qs : List ℤ) (from k : ℕ)
+    → ((s : ℕ) → s < 105 → P (from + s) (get_or (take 105 (drop k is)) s (pos 0)) (get_or (take 105 (drop k qs)) s (pos 0)))
+    → (s : ℕ) → s < 105 → P (from + s) (get_or is (k + s) (pos 0)) (get_or qs (k + s) (pos 0))
+part_held P is qs from k all s h = rw (part_at is k 105 s (pos 0) h, part_at qs k 105 s (pos 0) h) at (all s h)
 
 -- ---- one OFDM symbol
 
@@ -163,6 +145,17 @@ module _ (P : ℕ → ℤ → ℤ → Type 0) (is qs : List ℤ) (k : ℕ)
 clean_free : (P : ℕ → ℤ → ℤ → Type 0) (m : ℕ) (is qs : List ℤ) → Clean P is qs m → first_occupied is qs 0 (256 * m) ≡ 256 * m
 clean_free P m is qs c = none_occupied is qs 0 (256 * m) (λ j a h. c.free j (omega arith))
 
+-- all m have no fault
+pub all_legal : (strays : ℕ → ℤ → ℤ → Bool) (m : ℕ) (is qs : List ℤ) → Clean (Legal strays) is qs m
+    → (first_occupied is qs 0 (256 * m) ≡ 256 * m) × (first_stray strays m is qs ≡ 210 * m)
+all_legal strays m is qs c =
+    let long = length_up 0 (210 * m) in (
+      clean_free (Legal strays) m is qs c,
+      first_none (stray_by strays is qs) 0 (up_from 0 (210 * m)) (λ place h.
+          let l : place < 210 * m = omega (arith, long) in
+          ap (stray_by strays is qs) (up_at 0 (210 * m) place l ∙ zero-add place) ∙ c.held place l) ∙ long,
+    )
+
 -- ---- by a scheme
 
 -- what passes as a point of n bits is one
@@ -176,32 +169,6 @@ sized_passed n i q few p = record {
   no_hole = λ one e f. omega (arith, p.no_hole e f);
 }
 
-module _ {scheme : List ℕ} (good : Scheme scheme) where
-  -- the point of entry s is one of its constellation
-  entry_legal : (s : ℕ) (i q : ℤ) → s < 210 → PassedBy scheme s i q → is_stray (label_of (get_or scheme s 0) i q) ≡ false
-  entry_legal s i q h p = sized_legal (get_or scheme s 0) i q (sized_passed _ i q (entry_in good s h).1 p)
-
-  -- all m have no fault
-  pub sized_all : (m : ℕ) (is qs : List ℤ) → Clean (PassedBy scheme) is qs m
-      → (first_occupied is qs 0 (256 * m) ≡ 256 * m) × (stray_in (repeated m scheme) (received m is qs) ≡ 210 * m)
-  sized_all m is qs c = (
-    clean_free (PassedBy scheme) m is qs c,
-    first_none is_stray Stray (labels good m is qs) (λ place h.
-        let l : place < 210 * m = omega (arith, labels_long good m is qs) in
-        ap is_stray (labels_at good m is qs place l) ∙ entry_legal (place % 210) _ _ (omega arith) (c.held place l)) ∙ labels_long good m is qs,
-  )
-
--- ---- by DQPSK
-
-abbrev straying : Point → Bool
-straying p = is_stray (phase_of (level_i p) (level_q p))
-
--- all m have no fault
-pub turned_all : (m : ℕ) (is qs : List ℤ) → Clean Single is qs m
-    → (first_occupied is qs 0 (256 * m) ≡ 256 * m) × (stray_at (received m is qs) ≡ 210 * m)
-turned_all m is qs c = (
-  clean_free Single m is qs c,
-  first_none straying Nothing (received m is qs) (λ place h.
-      let l : place < 210 * m = omega (arith, length-received m is qs) in
-      ap straying (received_at m is qs place l) ∙ single_legal _ _ (c.held place l)) ∙ length-received m is qs,
-)
+-- the point of an entry that passes is one of its constellation
+pub passed_legal : {scheme : List ℕ} → Scheme scheme → (s : ℕ) (i q : ℤ) → s < 210 → PassedBy scheme s i q → is_stray (label_of (get_or scheme s 0) i q) ≡ false
+passed_legal {scheme} good s i q h p = sized_legal (get_or scheme s 0) i q (sized_passed _ i q (entry_in good s h).1 p)

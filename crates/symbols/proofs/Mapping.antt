@@ -14,7 +14,7 @@ use Rattle.bits.specs.Words.{Bits, digits}
 use Rattle.bits.proofs.Digits.{bits_take, bits_drop, length_digits}
 use Rattle.points.specs.declared.Point.{Point}
 use Rattle.points.specs.declared.Point.TheVariants.{At}
-use Rattle.points.specs.declared.Label.TheVariants.{Of}
+use Rattle.std.specs.Prelude.{Some}
 use Rattle.points.specs.Constellations.{point_of, label_number, level_i, level_q}
 use Rattle.points.proofs.Rules.{has_point, label_of_point}
 use Rattle.symbols.specs.Grids.{received}
@@ -57,7 +57,7 @@ module _ (n : ℕ) (bits : List ℕ) (l : 2 ≤ n) (h : n ≤ 10) (each : Bits b
   first_point : At (level_i (point_of n (as_number (take n bits)))) (level_q (point_of n (as_number (take n bits)))) ≡ point_of n (as_number (take n bits))
   first_point = sym (has_point n (as_number (take n bits)) l h first_low)
 
-  first_label : point_label n (point_of n (as_number (take n bits))) ≡ Of (as_number (take n bits))
+  first_label : point_label n (point_of n (as_number (take n bits))) ≡ Some (as_number (take n bits))
   first_label = label_of_point n (as_number (take n bits)) _ _ (sym first_point)
 
 pub points_mapped : (ns bits : List ℕ) → Entries ns → Bits bits → Points (mapped ns bits)

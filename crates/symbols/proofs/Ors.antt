@@ -28,6 +28,6 @@ pub size_zero : (x : ℤ) → nat_abs x ≡ 0 → x ≡ pos 0
 size_zero (pos n) e = cc
 size_zero (negsuc n) e = absurd (omega arith)
 
--- the sizes as the code has them are those of the levels
-pub passed_as : {n e f x y : ℕ} → e ≡ x → f ≡ y → Passed n e f → Passed n x y
-passed_as e f p = rw (e, f) at p
+-- the bits and the sizes as the code has them are those of the entry and the levels
+pub passed_as : {n m e f x y : ℕ} → n ≡ m → e ≡ x → f ≡ y → Passed n e f → Passed m x y
+passed_as n e f p = rw (n, e, f) at p

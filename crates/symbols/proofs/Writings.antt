@@ -1,4 +1,4 @@
--- Bits to points by a lent table: the number of bits of machine words, the points entry by entry, those of our table, and those of no more bits than are needed.
+-- Bits to points: the number of bits of machine words, the points entry by entry, and those of no more bits than are needed.
 -- Assumes nothing.
 use mathlib.Core.Path.{◌≡◌, refl, sym, ap, ap₂, ◌∙◌}
 use mathlib.Core.List.{List, [], ◌∷◌, ◌++◌}
@@ -19,7 +19,8 @@ use Rattle.packed.proofs.Paddings.{drop-take}
 use Rattle.packed.proofs.Walks.{from_append, length_from}
 use Rattle.packed.proofs.Windows.{across_of, next_across}
 use Rattle.points.specs.declared.Point.TheVariants.{Nothing}
-use Rattle.points.specs.Lent.{point_in, our_cells}
+use Rattle.points.specs.Constellations.{point_of}
+use Rattle.points.specs.Lent.{our_cells}
 use Rattle.points.proofs.Lending.{point_ours}
 use Rattle.symbols.specs.Schemes.{sum_of, mapped}
 use Rattle.symbols.specs.ByScheme.{mapped_by}
@@ -64,19 +65,14 @@ number_at ws at n x few h l e =
 
 -- ---- the points, entry by entry
 
-pub length-mapped_by : (cells ns bits : List ℕ) → length (mapped_by cells ns bits) ≡ length ns
-unfolding mapped_by
-length-mapped_by cells [] bits = refl
-length-mapped_by cells (n ∷ ns) bits = ap suc (length-mapped_by cells ns (drop n bits))
-
-pub mapped_by_at : (cells ns bits : List ℕ) (s : ℕ) → s < length ns
-    → get_or (mapped_by cells ns bits) s Nothing ≡ point_in cells (get_or ns s 0) (as_number (take (get_or ns s 0) (drop (sum_of (take s ns)) bits)))
-unfolding mapped_by sum_of
-mapped_by_at cells [] bits s h = absurd (omega arith)
-mapped_by_at cells (n ∷ ns) bits zero h = refl
-mapped_by_at cells (n ∷ ns) bits (suc s) h =
-    mapped_by_at cells ns (drop n bits) s (omega arith)
-    ∙ ap (λ (v : List ℕ). point_in cells (get_or ns s 0) (as_number (take (get_or ns s 0) v))) (drop-drop (sum_of (take s ns)) n bits)
+pub mapped_at : (ns bits : List ℕ) (s : ℕ) → s < length ns
+    → get_or (mapped ns bits) s Nothing ≡ point_of (get_or ns s 0) (as_number (take (get_or ns s 0) (drop (sum_of (take s ns)) bits)))
+unfolding mapped sum_of
+mapped_at [] bits s h = absurd (omega arith)
+mapped_at (n ∷ ns) bits zero h = refl
+mapped_at (n ∷ ns) bits (suc s) h =
+    mapped_at ns (drop n bits) s (omega arith)
+    ∙ ap (λ (v : List ℕ). point_of (get_or ns s 0) (as_number (take (get_or ns s 0) v))) (drop-drop (sum_of (take s ns)) n bits)
 
 -- ---- with our table, they are those of the constellations
 

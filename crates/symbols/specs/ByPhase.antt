@@ -1,7 +1,7 @@
 -- What the functions of phases.rt answer, whatever comes in: OFDM symbols are looked at, read and written by DQPSK, where that can be.
 -- Where no point is astray, what is read comes to `dibits_from` (proofs/Dibits), so that nobody has to believe anything here.
 -- Assumes nothing.
-use Rattle.std.specs.Prelude.{Bool, cond, ◌&&◌, List, [], ◌∷◌, ◌++◌, map, ℕ, ◌+◌, ◌*◌, ◌/◌, ◌%◌, eqb, ℤ, length, drop, replicate}
+use Rattle.std.specs.Prelude.{Bool, cond, ◌&&◌, List, [], ◌∷◌, ◌++◌, map, ℕ, ◌+◌, ◌*◌, ◌/◌, ◌%◌, eqb, ℤ, length, drop, replicate, Result, Ok}
 use Rattle.bits.specs.Words.{lowest}
 use Rattle.points.specs.declared.Point.{Point}
 use Rattle.points.specs.Constellations.{level_i, level_q}
@@ -12,11 +12,10 @@ use Rattle.symbols.specs.Grids.{spread, points_from, received, room}
 use Rattle.symbols.specs.Faults.{roomy, fault_at}
 use Rattle.symbols.specs.declared.phases.Turned.{Turned}
 use Rattle.symbols.specs.declared.Fault.{Fault}
-use Rattle.symbols.specs.declared.Fault.TheVariants.{Clear}
 
 -- checks 7 and 8; where they cannot be looked at, no fault is found
-abbrev pub phase_fault : ℕ → List ℤ → List ℤ → Fault
-phase_fault m is qs = cond (roomy m is qs) (fault_at (stray_at (received m is qs)) m is qs) Clear
+abbrev pub phase_fault : ℕ → List ℤ → List ℤ → Result Unit Fault
+phase_fault m is qs = cond (roomy m is qs) (fault_at (stray_at (received m is qs)) m is qs) (Ok tt)
 
 -- ---- reading
 

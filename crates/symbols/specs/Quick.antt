@@ -1,6 +1,6 @@
 -- What the quick look says where it finds nothing wrong (src/quick.rt): of sizes, by the entries of a scheme, and of one OFDM symbol.
 -- Assumes nothing.
-use Rattle.std.specs.Prelude.{◌≡◌, List, ℕ, suc, ◌+◌, ◌%◌, ◌≤◌, ◌<◌, ℤ, pos, nat_abs, length, get_or}
+use Rattle.std.specs.Prelude.{◌≡◌, Bool, false, List, ℕ, suc, ◌+◌, ◌%◌, ◌≤◌, ◌<◌, ℤ, pos, nat_abs, length, get_or}
 use Rattle.points.specs.Sizes.{most_of, odd_of}
 use Rattle.symbols.specs.declared.Carrier.TheVariants.{Empty}
 use Rattle.symbols.specs.Grid.{sub_carriers, symbol_points, carrier_at, carrier_of}
@@ -16,15 +16,6 @@ pub record Passed (n e f : ℕ) : Type 0 where
 -- those of the levels i and q, by entry s of a scheme
 abbrev pub PassedBy : List ℕ → ℕ → ℤ → ℤ → Type 0
 PassedBy scheme s i q = Passed (get_or scheme s 0) (nat_abs i) (nat_abs q)
-
--- those of the levels of 105 points, by as many entries
-abbrev pub PassedAll : List ℕ → List ℤ → List ℤ → Type 0
-PassedAll entries is qs = (s : ℕ) → s < 105 → PassedBy entries s (get_or is s (pos 0)) (get_or qs s (pos 0))
-
--- the entries of half an OFDM symbol: 105, each from 2 to 10
-pub record Half (entries : List ℕ) : Type 0 where
-  pub long : length entries ≡ 105
-  pub each : (s : ℕ) → s < 105 → (2 ≤ get_or entries s 0) × (get_or entries s 0 ≤ 10)
 
 -- all levels are 0
 abbrev pub Zeros : List ℤ → Type 0
@@ -42,3 +33,7 @@ pub record Seen (P : ℕ → ℤ → ℤ → Type 0) (is qs : List ℤ) : Type 0
 -- the sizes of two levels are 0 and 1, as those of the points of DQPSK
 abbrev pub Single : ℕ → ℤ → ℤ → Type 0
 Single s i q = nat_abs i + nat_abs q ≡ 1
+
+-- a point is not stray, by a way to read points (specs/Faults)
+abbrev pub Legal : (ℕ → ℤ → ℤ → Bool) → ℕ → ℤ → ℤ → Type 0
+Legal strays s i q = strays s i q ≡ false

@@ -1,12 +1,11 @@
 -- OFDM symbols by a scheme (document 01, "Payload B on the wire"): it gives bits per point for s(1), .., s(210), the same in every OFDM symbol.
 -- Assumes nothing.
-use Rattle.std.specs.Prelude.{◌≡◌, ◌||◌, ℕ, zero, suc, ◌+◌, ltb, length, take, drop}
+use Rattle.std.specs.Prelude.{◌≡◌, ◌||◌, ℕ, zero, suc, ◌+◌, ltb, length, take, drop, Option}
 use mathlib.Core.List.{List, [], ◌∷◌, ◌++◌, zip_with}
 use Rattle.ground.specs.First.{first_in}
 use Rattle.bits.specs.Words.{digits}
 use Rattle.bits.specs.Bytes.{as_number}
 use Rattle.points.specs.declared.Point.{Point}
-use Rattle.points.specs.declared.Label.{Label}
 use Rattle.points.specs.Constellations.{point_of, label_of, label_number, is_stray, level_i, level_q}
 use Rattle.symbols.specs.Grid.{symbol_points}
 
@@ -41,7 +40,7 @@ mapped (n ∷ ns) bits = point_of n (as_number (take n bits)) ∷ mapped ns (dro
 -- ---- and back
 
 -- the label of a point of n bits
-abbrev pub point_label : ℕ → Point → Label
+abbrev pub point_label : ℕ → Point → Option ℕ
 point_label n p = label_of n (level_i p) (level_q p)
 
 -- the bits that points stand for: of each, its label in as many bits as its entry of the scheme says, b(n-1) first

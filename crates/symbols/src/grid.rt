@@ -1,6 +1,5 @@
 // The grid: points on the 256 sub-carriers of an OFDM symbol (equation 4), and where to read them.
-ghost use Rattle.std.specs.Prelude.{◌≡◌, ◌%◌, pos, length, get_or, replicate};
-ghost use Rattle.points.specs.Constellations.{same};
+ghost use Rattle.std.specs.Prelude.{◌≡◌, ◌%◌, pos, length, get_or};
 ghost use Rattle.symbols.specs.Grid.{sub_carriers, symbol_points, carrier_at, carrier_of};
 ghost use Rattle.symbols.specs.Grids.{level_on, levels_from, index_of, occupied, first_occupied, room};
 
@@ -45,18 +44,14 @@ pub fn carrier_of(s: usize) -> usize
 fn level_at(levels: &[i16], k: usize) -> i16
     ensures { result ≡ get_or levels.now k (pos 0) }
 {
-    if k < levels.len() {
-        return levels[k];
-    }
-    0
+    levels.get(k).copied().unwrap_or(0)
 }
 
 // The level that sub-carrier k has of those in s order: 0 where it is empty.
 fn level_on(levels: &[i16], k: usize) -> i16
     ensures { result ≡ level_on levels.now (carrier_at k) }
 {
-    let holds = carrier(k);
-    match holds {
+    match carrier(k) {
         Carrier::Holds(s) => level_at(levels, s - 1),
         Carrier::Empty => 0,
     }
@@ -66,11 +61,7 @@ fn level_on(levels: &[i16], k: usize) -> i16
 pub fn put_levels(levels: &[i16], out: &mut [i16])
     ensures { out.new ≡ levels_from levels.now 0 (length out.old) }
 {
-    if out.len() != SUB_CARRIERS {
-        put_each(levels, out);
-        return;
-    }
-    if levels.len() != POINTS {
+    if out.len() != SUB_CARRIERS || levels.len() != POINTS {
         put_each(levels, out);
         return;
     }
@@ -81,10 +72,8 @@ pub fn put_levels(levels: &[i16], out: &mut [i16])
 fn put_each(levels: &[i16], out: &mut [i16])
     ensures { out.new ≡ levels_from levels.now 0 (length out.old) }
 {
-    let mut k: usize = 0;
-    while k < out.len() {
+    for k in 0..out.len() {
         out[k] = level_on(levels, k);
-        k += 1;
     }
 }
 
@@ -93,32 +82,19 @@ fn put_symbol(levels: &[i16], out: &mut [i16])
     requires { (length levels.now ≡ symbol_points) × (length out.old ≡ sub_carriers) }
     ensures { out.new ≡ levels_from levels.now 0 (length out.old) }
 {
-    clear(&mut out[0..1]);
+    out[0..1].fill(0);
     copy(&levels[105..210], &mut out[1..106]);
-    clear(&mut out[106..151]);
+    out[106..151].fill(0);
     copy(&levels[0..105], &mut out[151..256]);
 }
 
-// Copies levels.
+// Copies levels. A loop, since `copy_from_slice` would ask the C library for memmove, and the archive may ask for memcpy and memset alone.
 fn copy(levels: &[i16], out: &mut [i16])
     requires { length levels.now ≡ length out.old }
     ensures { out.new ≡ levels.now }
 {
-    let mut k: usize = 0;
-    while k < out.len() {
+    for k in 0..out.len() {
         out[k] = levels[k];
-        k += 1;
-    }
-}
-
-// Makes each level zero.
-pub fn clear(out: &mut [i16])
-    ensures { out.new ≡ replicate (length out.old) (pos 0) }
-{
-    let mut k: usize = 0;
-    while k < out.len() {
-        out[k] = 0;
-        k += 1;
     }
 }
 
@@ -126,53 +102,35 @@ pub fn clear(out: &mut [i16])
 pub fn index(place: u16) -> usize
     ensures { result ≡ index_of place }
 {
-    let at = place as usize;
+    let at = usize::from(place);
     SUB_CARRIERS * (at / POINTS) + carrier_of(at % POINTS + 1)
-}
-
-// Whether a level is 0.
-fn is_zero(level: i16) -> bool
-    ensures { result ≡ same level (pos 0) }
-{
-    level == 0
 }
 
 // Whether grid index k is that of an unavailable sub-carrier, and (i, q) other than (0, 0).
 fn is_occupied(k: usize, i: i16, q: i16) -> bool
     ensures { result ≡ occupied (carrier_at (k % sub_carriers)) i q }
 {
-    let holds = carrier(k % SUB_CARRIERS);
-    match holds {
+    match carrier(k % SUB_CARRIERS) {
         Carrier::Holds(_) => false,
-        Carrier::Empty => {
-            if is_zero(i) {
-                return !is_zero(q);
-            }
-            true
-        }
+        Carrier::Empty => (i, q) != (0, 0),
     }
 }
 
-// The least of n grid indices at which an unavailable sub-carrier is occupied; n where there is none. Beyond the lists there is none.
+// The least of n grid indices at which an unavailable sub-carrier is occupied; n where there is none, as the definition counts. Beyond the lists there is none.
 pub fn first_occupied(i: &[i16], q: &[i16], n: usize) -> usize
     ensures { result ≡ first_occupied i.now q.now 0 n }
 {
-    let mut k: usize = 0;
-    while k < n {
+    for k in 0..n {
         if is_occupied(k, level_at(i, k), level_at(q, k)) {
             return k;
         }
-        k += 1;
     }
-    k
+    n
 }
 
 // Whether both lists have room for so many elements.
 pub fn room(n: usize, i: &[i16], q: &[i16]) -> bool
     ensures { result ≡ room n i.now q.now }
 {
-    if i.len() < n {
-        return false;
-    }
-    n <= q.len()
+    n <= i.len() && n <= q.len()
 }

@@ -1,13 +1,13 @@
 // OFDM symbols by DQPSK, from the phase before them: what is wrong with them, checks 7 and 8; their bits, and the points of bits, one element a bit.
 ghost use Rattle.std.specs.Prelude.{◌≡◌, ℕ, ◌*◌, ◌≤◌, ◌<◌, pos, length, get_or};
 ghost use Rattle.bits.specs.Words.{lowest};
-ghost use Rattle.points.specs.Constellations.{level_i, level_q};
-ghost use Rattle.points.specs.Dqpsk.{stray_at};
+ghost use Rattle.points.specs.Constellations.{level_i, level_q, is_stray};
+ghost use Rattle.points.specs.Dqpsk.{phase_of};
 ghost use Rattle.points.specs.Lent.{phase_read};
 ghost use Rattle.symbols.specs.Grid.{sub_carriers, symbol_points};
-ghost use Rattle.symbols.specs.Grids.{received};
 ghost use Rattle.symbols.specs.ByPhase.{phase_fault, dibits_between, bits_read, last_read, turned_on, turns_written, last_written};
 
+use crate::checks::Reads;
 use crate::grid::{POINTS, SUB_CARRIERS};
 use crate::{Fault, checks, grid, quick};
 use points::dqpsk;
@@ -16,36 +16,30 @@ use points::dqpsk;
 pub const BITS: usize = 420;
 
 // The checks 7 and 8 of m OFDM symbols by DQPSK. Where they are more than 256, or the lists are too short for them, nothing is looked at.
-pub fn first_fault(m: usize, i: &[i16], q: &[i16]) -> Fault
+pub fn first_fault(m: usize, i: &[i16], q: &[i16]) -> Result<(), Fault>
     ensures { result ≡ phase_fault m i.now q.now }
 {
-    if !checks::is_roomy(m, i, q) {
-        return Fault::Clear;
-    }
-    if quick::all_turned(m, i, q) {
-        return Fault::Clear;
-    }
-    checks::told(first_stray(m, i, q), m, i, q)
+    checks::first_fault(FourPhases, m, i, q)
 }
 
-// The place, in s order over m OFDM symbols, of the first stray point; 210 m where there is none.
-fn first_stray(m: usize, i: &[i16], q: &[i16]) -> usize
-    requires { (m ≤ 256) × (sub_carriers * m ≤ length i.now) × (sub_carriers * m ≤ length q.now) }
-    ensures { result ≡ stray_at (received m i.now q.now) }
-{
-    let mut place: usize = 0;
-    while place < POINTS * m {
-        let k = grid::index(place as u16);
-        if points::is_stray(dqpsk::phase(i[k], q[k])) {
-            return place;
-        }
-        place += 1;
+// The way of DQPSK: each point is one of the same four.
+#[derive(Clone, Copy)]
+struct FourPhases;
+
+impl Reads for FourPhases {
+    ghost strays = { λ way s i q. is_stray (phase_of i q) };
+
+    fn is_stray(self, _s: usize, i: i16, q: i16) -> bool {
+        dqpsk::phase(i, q).is_none()
     }
-    place
+
+    fn passes(self, _from: usize, i: &[i16], q: &[i16]) -> bool {
+        quick::beside(i, q) == 0
+    }
 }
 
 // What reading an OFDM symbol gives: its bits, and the phase of its last point.
-#[derive(Clone, Copy)]
+#[derive(Debug, Clone, Copy, PartialEq, Eq)]
 pub struct Reading {
     pub bits: [u8; BITS],
     pub last: u16,
@@ -75,34 +69,29 @@ fn put_phases(i: &[i16], q: &[i16], out: &mut [u16])
     requires { (length i.now ≡ length out.old) × (length q.now ≡ length out.old) }
     ensures { (length out.new ≡ length out.old) × ((s : ℕ) → s < length out.old → get_or out.new s 0 ≡ phase_read (get_or i.now s (pos 0)) (get_or q.now s (pos 0))) }
 {
-    let mut s: usize = 0;
-    while s < out.len() {
+    for s in 0..out.len() {
         out[s] = dqpsk::read(i[s], q[s]);
-        s += 1;
     }
 }
 
 // The bits of the turns from a phase to the first of 210, from it to the next, and so on.
 fn dibits(phase: u16, phases: &[u16; POINTS]) -> [u8; BITS]
-    requires { length phases.now ≡ symbol_points }
     ensures { result ≡ dibits_between phase phases.now }
 {
     let mut bits = [0u8; BITS];
     let mut last = phase;
-    let mut s: usize = 0;
-    while s < POINTS {
+    for s in 0..POINTS {
         let to = phases[s];
         let dibit = dqpsk::dibit(last, to);
         bits[2 * s] = dibit / 2;
         bits[2 * s + 1] = dibit % 2;
         last = to;
-        s += 1;
     }
     bits
 }
 
 // The levels of 210 points, in s order, and the phase of the last.
-#[derive(Clone, Copy)]
+#[derive(Debug, Clone, Copy, PartialEq, Eq)]
 pub struct Turned {
     pub is: [i16; POINTS],
     pub qs: [i16; POINTS],
@@ -134,13 +123,11 @@ fn turn_bits(phase: u16, bits: &[u8]) -> Turned
     let mut is = [0i16; POINTS];
     let mut qs = [0i16; POINTS];
     let mut last = phase;
-    let mut s: usize = 0;
-    while s < POINTS {
+    for s in 0..POINTS {
         last = dqpsk::turned(last, 2 * (bits[2 * s] % 2) + bits[2 * s + 1] % 2);
         let point = dqpsk::point(last);
         is[s] = points::level_i(point);
         qs[s] = points::level_q(point);
-        s += 1;
     }
     Turned { is, qs, last }
 }

@@ -1,81 +1,51 @@
 // A quick look at OFDM symbols: where it finds nothing wrong, nothing is. It reads sizes of levels alone, many at a time, and tells no place.
+// What is wrong with a point is a u16, as wide as its levels, 0 where nothing is: a loop gathers it without a branch, and the compiler does eight at once.
 ghost use Rattle.std.specs.Prelude.{◌≡◌, true, cond, ℕ, ◌+◌, ◌*◌, ◌%◌, ◌≤◌, ◌<◌, ltb, pos, nat_abs, length, get_or};
-ghost use Rattle.points.specs.Dqpsk.{stray_at};
 ghost use Rattle.points.specs.Sizes.{most_of};
 ghost use Rattle.symbols.specs.Grid.{sub_carriers, symbol_points};
-ghost use Rattle.symbols.specs.Grids.{received, first_occupied};
-ghost use Rattle.symbols.specs.Schemes.{Scheme, repeated, stray_in};
-ghost use Rattle.symbols.specs.Quick.{Passed, PassedBy, PassedAll, Half, Zeros, EmptyFrom, Single, Seen};
+ghost use Rattle.symbols.specs.Grids.{first_occupied};
+ghost use Rattle.symbols.specs.Faults.{first_stray};
+ghost use Rattle.symbols.specs.Quick.{Passed, PassedBy, Zeros, EmptyFrom, Single, Seen, Legal};
 
-use crate::grid::{POINTS, SUB_CARRIERS};
+use crate::checks::Reads;
+use crate::grid::SUB_CARRIERS;
+use crate::scheme::{PointBits, Scheme};
 
 // The points on either side of the unavailable sub-carriers in the middle.
 const HALF: usize = 105;
 
 // Whether m OFDM symbols have no fault that a look at sizes could overlook.
-pub(crate) fn all_sized(scheme: &[u8], m: usize, i: &[i16], q: &[i16]) -> bool
-    requires { Scheme scheme.now × (m ≤ 256) × (sub_carriers * m ≤ length i.now) × (sub_carriers * m ≤ length q.now) }
-    ensures { result ≡ true → (first_occupied i.now q.now 0 (sub_carriers * m) ≡ sub_carriers * m) × (stray_in (repeated m scheme.now) (received m i.now q.now) ≡ symbol_points * m) }
-{
-    let mut k: usize = 0;
-    while k < m {
-        let at = SUB_CARRIERS * k;
-        let end = at + SUB_CARRIERS;
-        if !sized(scheme, &i[at..end], &q[at..end]) {
-            return false;
-        }
-        k += 1;
-    }
-    true
-}
-
-// Whether m OFDM symbols of DQPSK have no fault.
-pub(crate) fn all_turned(m: usize, i: &[i16], q: &[i16]) -> bool
+pub(crate) fn all_pass<R: Reads>(read: R, m: usize, i: &[i16], q: &[i16]) -> bool
     requires { (m ≤ 256) × (sub_carriers * m ≤ length i.now) × (sub_carriers * m ≤ length q.now) }
-    ensures { result ≡ true → (first_occupied i.now q.now 0 (sub_carriers * m) ≡ sub_carriers * m) × (stray_at (received m i.now q.now) ≡ symbol_points * m) }
+    ensures { result ≡ true → (first_occupied i.now q.now 0 (sub_carriers * m) ≡ sub_carriers * m) × (first_stray (R.strays read) m i.now q.now ≡ symbol_points * m) }
 {
-    let mut k: usize = 0;
-    while k < m {
+    for k in 0..m {
         let at = SUB_CARRIERS * k;
         let end = at + SUB_CARRIERS;
-        if !turned(&i[at..end], &q[at..end]) {
+        if !passes(read, &i[at..end], &q[at..end]) {
             return false;
         }
-        k += 1;
     }
     true
 }
 
-// Whether the unavailable sub-carriers of one OFDM symbol are empty, and the sizes of the levels of its points those of points by the scheme.
-fn sized(scheme: &[u8], i: &[i16], q: &[i16]) -> bool
-    requires { Scheme scheme.now × (length i.now ≡ sub_carriers) × (length q.now ≡ sub_carriers) }
-    ensures { result ≡ true → Seen (PassedBy scheme.now) i.now q.now }
-{
-    occupied(i, q, 0, 1)
-        | occupied(i, q, 106, 151)
-        | amiss(&scheme[0..HALF], &i[151..256], &q[151..256])
-        | amiss(&scheme[HALF..POINTS], &i[1..106], &q[1..106])
-        == 0
-}
-
-// Whether the unavailable sub-carriers of one OFDM symbol are empty, and the sizes of the levels of its points those of points of DQPSK.
-fn turned(i: &[i16], q: &[i16]) -> bool
+// Whether the unavailable sub-carriers of one OFDM symbol are empty, and the sizes of the levels of its points those of points that are not stray.
+fn passes<R: Reads>(read: R, i: &[i16], q: &[i16]) -> bool
     requires { (length i.now ≡ sub_carriers) × (length q.now ≡ sub_carriers) }
-    ensures { result ≡ true → Seen Single i.now q.now }
+    ensures { result ≡ true → Seen (Legal (R.strays read)) i.now q.now }
 {
-    occupied(i, q, 0, 1)
-        | occupied(i, q, 106, 151)
-        | beside(&i[151..256], &q[151..256])
-        | beside(&i[1..106], &q[1..106])
-        == 0
+    is_empty(i, q, 0, 1)
+        & is_empty(i, q, 106, 151)
+        & read.passes(0, &i[151..256], &q[151..256])
+        & read.passes(HALF, &i[1..106], &q[1..106])
 }
 
-// 0 only where the sub-carriers from one to before another are empty.
-fn occupied(i: &[i16], q: &[i16], from: usize, end: usize) -> u16
+// Whether the sub-carriers from one to before another are empty.
+fn is_empty(i: &[i16], q: &[i16], from: usize, end: usize) -> bool
     requires { (from ≤ end) × (end ≤ length i.now) × (end ≤ length q.now) }
-    ensures { result ≡ 0 → EmptyFrom from end i.now q.now }
+    ensures { result ≡ true → EmptyFrom from end i.now q.now }
 {
-    any(&i[from..end]) | any(&q[from..end])
+    any(&i[from..end]) | any(&q[from..end]) == 0
 }
 
 // 0 only where all levels are 0.
@@ -83,38 +53,37 @@ fn any(levels: &[i16]) -> u16
     ensures { result ≡ 0 → Zeros levels.now }
 {
     let mut x: u16 = 0;
-    let mut k: usize = 0;
-    while k < levels.len() {
-        x = x | points::size(levels[k]);
-        k += 1;
+    for k in 0..levels.len() {
+        x |= points::size(levels[k]);
     }
     x
 }
 
-// 0 only where no point of half an OFDM symbol is amiss, by as many entries of a scheme.
-fn amiss(entries: &[u8], i: &[i16], q: &[i16]) -> u16
-    requires { Half entries.now × (length i.now ≡ 105) × (length q.now ≡ 105) }
-    ensures { result ≡ 0 → PassedAll entries.now i.now q.now }
+// 0 only where none of 105 points is amiss, by the entries of a scheme from the one at `from` on.
+pub(crate) fn amiss(scheme: Scheme<'_>, from: usize, i: &[i16], q: &[i16]) -> u16
+    requires { (from + 105 ≤ symbol_points) × (length i.now ≡ 105) × (length q.now ≡ 105) }
+    ensures { result ≡ 0 → (s : ℕ) → s < 105 → PassedBy scheme.entry.entries.now (from + s) (get_or i.now s (pos 0)) (get_or q.now s (pos 0)) }
 {
     let mut x: u16 = 0;
-    let mut s: usize = 0;
-    while s < HALF {
-        x = x | wrong(entries[s], points::size(i[s]), points::size(q[s]));
-        s += 1;
+    for s in 0..HALF {
+        x = x
+            | wrong(
+                scheme.bits(from + s),
+                points::size(i[s]),
+                points::size(q[s]),
+            );
     }
     x
 }
 
 // 0 only where the sizes of the levels of each point are 0 and 1.
-fn beside(i: &[i16], q: &[i16]) -> u16
+pub(crate) fn beside(i: &[i16], q: &[i16]) -> u16
     requires { length q.now ≡ length i.now }
     ensures { result ≡ 0 → (s : ℕ) → s < length i.now → Single s (get_or i.now s (pos 0)) (get_or q.now s (pos 0)) }
 {
     let mut x: u16 = 0;
-    let mut s: usize = 0;
-    while s < i.len() {
-        x = x | more_or_less(points::size(i[s]), points::size(q[s]));
-        s += 1;
+    for s in 0..i.len() {
+        x |= more_or_less(points::size(i[s]), points::size(q[s]));
     }
     x
 }
@@ -126,13 +95,16 @@ fn more_or_less(e: u16, f: u16) -> u16
     if e == 0 { f ^ 1 } else { (e ^ 1) | f }
 }
 
-// 0 only where the sizes of two levels are those of a point of n bits: its levels are odd where the largest is.
-fn wrong(n: u8, e: u16, f: u16) -> u16
-    requires { (2 ≤ n) × (n ≤ 10) }
-    ensures { result ≡ 0 → Passed n e f }
+// 0 only where the sizes of two levels are those of a point of so many bits: its levels are odd where the largest is.
+fn wrong(bits: PointBits, e: u16, f: u16) -> u16
+    ensures { result ≡ 0 → Passed bits.n e f }
 {
-    let most = most_of(n) as u16;
-    over(e, most) | over(f, most) | (e ^ most) % 2 | (f ^ most) % 2 | both(e, f, (n % 2) as u16)
+    let most = u16::from(most_of(bits));
+    over(e, most)
+        | over(f, most)
+        | (e ^ most) % 2
+        | (f ^ most) % 2
+        | both(e, f, u16::from(bits.n % 2))
 }
 
 // 1 where e is larger than most, else 0.
@@ -153,11 +125,11 @@ fn both(e: u16, f: u16, holes: u16) -> u16
     }
 }
 
-// The largest size of a level of n bits: by sums and not from a table, so that the compiler does many at a time.
-fn most_of(n: u8) -> u8
-    requires { (2 ≤ n) × (n ≤ 10) }
-    ensures { result ≡ most_of n }
+// The largest size of a level of so many bits: by sums and not from a table, so that the compiler does many at a time.
+fn most_of(bits: PointBits) -> u8
+    ensures { result ≡ most_of bits.n }
 {
+    let n = bits.n;
     1 + (from(n, 3) + from(n, 4))
         + 2 * (from(n, 5) + from(n, 6))
         + 4 * (from(n, 7) + from(n, 8))

@@ -3,7 +3,7 @@ use Rattle.streams.proofs.Writing.{grows_trans}
 use Rattle.points_table.proofs.write_labels.Goals as goal
 
 pub returns-in_err-write_row : goal.returns-in_err-write_row
-returns-in_err-write_row g c = grows_trans _ _ _ c.loop-x.invariant c.write_row.ensures
+returns-in_err-write_row g c = grows_trans _ _ _ c.loop-i.invariant c.write_row.ensures
 
-pub loop-x-preserved : goal.loop-x-preserved
-loop-x-preserved g c = grows_trans _ _ _ c.loop-x.invariant c.write_row.ensures
+pub loop-i-preserved : goal.loop-i-preserved
+loop-i-preserved g c = grows_trans _ _ _ c.loop-i.invariant c.write_row.ensures

@@ -2,5 +2,5 @@
 use Rattle.streams.specs.Streams.{Grows}
 use Rattle.points_table.proofs.write_labels.Given as goal
 
-abbrev pub invariant-loop-x : goal.invariant-loop-x
-invariant-loop-x g l = Grows (g.W.Write.contents l.initial.to) (g.W.Write.contents l.to)
+abbrev pub invariant-loop-i : goal.invariant-loop-i
+invariant-loop-i g l = Grows (g.W.Write.contents l.initial.to) (g.W.Write.contents l.to)

@@ -5,4 +5,4 @@ use Rattle.decider.proofs.symbol.clear_between.Goals as goal
 
 pub returns : goal.returns
 returns c =
-    both_cleared c.args.out.now _ _ c.requires c.clear.ensures c.clear-2.ensures
+    both_cleared c.args.out.now _ _ c.requires (c.fill.ensures.after (λ y e. e)) (c.fill-2.ensures.after (λ y e. e))

@@ -38,4 +38,4 @@ loop-k-preserved c =
     first_later _ 0 _ l.k l.invariant (omega (arith, long)) (sym (seen (goal.at.loop-k-preserved c).After-is_occupied) ∙ c.if-is_occupied.false)
 
 pub returns : goal.returns
-returns c = first_end _ 0 _ c.loop-k.k c.loop-k.invariant (omega (arith, length_up 0 c.args.n))
+returns c = first_end _ 0 _ c.args.n (omega (arith, c.loop-k.invariant)) (omega (arith, length_up 0 c.args.n))

@@ -10,8 +10,10 @@ use Rattle.symbols.proofs.Indices.{carrier_of-lt}
 use Rattle.symbols.proofs.grid.index.Goals as goal
 
 pub overflow_add-result : goal.overflow_add-result
-overflow_add-result c = omega (arith, carrier_of-lt (c.args.place % 210 + 1))
+overflow_add-result c = omega (arith, c.from-at.ensures, carrier_of-lt (c.from-at.result % 210 + 1))
 
 pub returns : goal.returns
 unfolding index_of
-returns c = ap (λ k. 256 * (c.args.place / 210) + k) (c.carrier_of.ensures ∙ ap carrier_of (add-one (c.args.place % 210)))
+returns c =
+    let at = c.from-at.result in
+    ap (λ k. 256 * (at / 210) + k) (c.carrier_of.ensures ∙ ap carrier_of (add-one (at % 210))) ∙ ap index_of c.from-at.ensures

@@ -17,11 +17,11 @@ before levels zero h = absurd (omega arith)
 before levels (suc n) h = ap (λ (k : ℕ). get_or levels k (pos 0)) (omega arith)
 
 pub overflow_sub-s : goal.overflow_sub-s
-overflow_sub-s c = (place_carrier c.args.k c.in-Holds.s (sym c.carrier-holds.ensures ∙ c.in-Holds.is)).1
+overflow_sub-s c = (place_carrier c.args.k c.in-Holds.s (sym c.carrier.ensures ∙ c.in-Holds.is)).1
 
 pub returns-in-Holds : goal.returns-in-Holds
 returns-in-Holds c =
     let levels = c.args.levels.now in
-    let held = sym c.carrier-holds.ensures ∙ c.in-Holds.is in
+    let held = sym c.carrier.ensures ∙ c.in-Holds.is in
     to_z-of_z w16 c.level_at.result (record { sfits = c.level_at.type_inv }) ∙ c.level_at.ensures
     ∙ before levels c.in-Holds.s (place_carrier c.args.k c.in-Holds.s held).1 ∙ ap (level_on levels) (sym held)

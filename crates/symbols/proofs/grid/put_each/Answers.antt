@@ -34,9 +34,9 @@ loop-k-preserved c =
     let l = c.loop-k in
     let levels = c.args.levels.now in
     let v : to_z w16 (of_z w16 c.level_on.result) ≡ level_on levels (carrier_at l.k) = to_z-of_z w16 _ (record { sfits = c.level_on.type_inv }) ∙ c.level_on.ensures in
-    (omega arith, simp length-set l.invariant.1, rw v (turn levels l.out (length c.args.out.now) l.k (omega arith) (omega arith)) ∙ l.invariant.2)
+    (simp length-set l.invariant.0, rw v (turn levels l.out (length c.args.out.now) l.k (omega arith) (omega arith)) ∙ l.invariant.1)
 
 pub returns : goal.returns
 returns c =
     let l = c.loop-k in
-    done c.args.levels.now l.out (length c.args.out.now) l.k (omega arith) (omega arith) ∙ l.invariant.2
+    done c.args.levels.now l.out (length c.args.out.now) l.k (omega arith) (omega arith) ∙ l.invariant.1

@@ -2,7 +2,7 @@
 -- Assumes nothing.
 use mathlib.Core.Path.{◌≡◌}
 use mathlib.Core.List.{◌++◌}
-use Prim.Native.Nat.{◌+◌, ◌-◌, ◌≤◌}
+use Prim.Native.Nat.{◌+◌}
 use lib.ListN.{take}
 use Rattle.packed.specs.Packed.{bits_from}
 use Rattle.symbols.specs.Grids.{points_from}
@@ -13,8 +13,5 @@ use Rattle.symbols.proofs.growing.points_behind.Given as goal
 
 abbrev pub invariant-loop-s : goal.invariant-loop-s
 invariant-loop-s l =
-    (l.s ≤ 210) × (l.at ≡ l.count + sum_of (take l.s l.scheme))
-    × Grown (take l.count (bits_from 41 0 l.initial.words) ++ read_by l.quadrants (take l.s l.scheme) (take l.s (points_from l.i l.q 1 210))) l.at l.top l.words
-
-abbrev pub decreases-loop-s : goal.decreases-loop-s
-decreases-loop-s l = 210 - l.s
+    (l.at ≡ l.count + sum_of (take l.s l.scheme.entries.now))
+    × Grown (take l.count (bits_from 41 0 l.initial.words) ++ read_by (take l.s l.scheme.entries.now) (take l.s (points_from l.i l.q 1 210))) l.at l.top l.words

@@ -2,7 +2,7 @@
 -- Assumes nothing.
 use mathlib.Core.Path.{◌≡◌}
 use mathlib.Core.List.{List, ◌++◌}
-use Prim.Native.Nat.{ℕ, ◌-◌, ◌*◌}
+use Prim.Native.Nat.{ℕ, ◌*◌}
 use lib.ListN.{length, take, drop}
 use Rattle.symbols.specs.ByPhase.{dibits_between}
 use Rattle.symbols.proofs.phases.dibits.Given as goal
@@ -14,6 +14,3 @@ pub record Begun (phase : ℕ) (phases bits : List ℕ) (last s : ℕ) : Type 0 
 
 abbrev pub invariant-loop-s : goal.invariant-loop-s
 invariant-loop-s l = Begun l.phase l.phases l.bits l.last l.s
-
-abbrev pub decreases-loop-s : goal.decreases-loop-s
-decreases-loop-s l = 210 - l.s

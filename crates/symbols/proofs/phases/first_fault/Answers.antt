@@ -1,13 +1,15 @@
--- `symbols::phases::first_fault` meets its contract: where the quick look passes, there is no fault.
+-- `symbols::phases::first_fault` meets its contract: the look by places is one at the phases of the points.
 -- Assumes nothing.
-use mathlib.Core.Path.{sym, ◌∙◌}
-use native.Mathlib.Omega.{arith}
-use Rattle.symbols.proofs.Faults.{fault_none}
+use mathlib.Core.Path.{ap, ◌∙◌}
+use mathlib.Core.Bool.{cond}
+use Rattle.std.specs.Prelude.{Ok}
+use Rattle.symbols.specs.Faults.{roomy, fault_at}
+use Rattle.symbols.proofs.Strays.{stray_phases}
 use Rattle.symbols.proofs.phases.first_fault.Goals as goal
 
-pub returns-then-all_turned : goal.returns-then-all_turned
-returns-then-all_turned c =
-    let a = c.args in
-    let both = c.all_turned.ensures c.if-all_turned.true in
-    let ready = sym c.is_roomy.ensures ∙ c.if-not-is_roomy.false in
-    rw ready (fault_none _ a.m a.i.now a.q.now (omega (arith, both.0)) (omega (arith, both.1)))
+pub returns : goal.returns
+returns c =
+    let m = c.args.m in
+    let i = c.args.i.now in
+    let q = c.args.q.now in
+    c.first_fault.ensures ∙ ap (λ stray. cond (roomy m i q) (fault_at stray m i q) (Ok tt)) (stray_phases m i q)

@@ -2,7 +2,7 @@
 -- Assumes nothing.
 use mathlib.Core.Path.{◌≡◌}
 use mathlib.Core.List.{List}
-use Prim.Native.Nat.{ℕ, ◌-◌, ◌≤◌, ◌<◌}
+use Prim.Native.Nat.{ℕ, ◌<◌}
 use lib.IntN.{ℤ, pos}
 use lib.ListN.{length, get_or}
 use Rattle.points.specs.Lent.{phase_read}
@@ -13,7 +13,4 @@ abbrev pub Put : List ℤ → List ℤ → List ℕ → ℕ → Type 0
 Put is qs out n = (s : ℕ) → s < n → get_or out s 0 ≡ phase_read (get_or is s (pos 0)) (get_or qs s (pos 0))
 
 abbrev pub invariant-loop-s : goal.invariant-loop-s
-invariant-loop-s l = (l.s ≤ length l.initial.out) × (length l.out ≡ length l.initial.out) × Put l.i l.q l.out l.s
-
-abbrev pub decreases-loop-s : goal.decreases-loop-s
-decreases-loop-s l = length l.initial.out - l.s
+invariant-loop-s l = (length l.out ≡ length l.initial.out) × Put l.i l.q l.out l.s

@@ -8,7 +8,7 @@ use lib.ListN.{length, get_or, take, drop, replicate}
 use lib.Seq.{drop_at}
 use borrow.Rule.Slice.PartMut.{put_mid}
 use Rattle.symbols.specs.ByPhase.{phases_read, dibits_between}
-use Rattle.symbols.proofs.Dibits.{halves_read, length_phases, last_read}
+use Rattle.symbols.proofs.Dibits.{halves_read, last_read}
 use Rattle.symbols.proofs.phases.read.Goals as goal
 use Rattle.symbols.proofs.phases.read.Goals.{After-put_phases-2}
 
@@ -22,10 +22,6 @@ whole c =
     = ap (λ (rest : List ℕ). length (take 105 rest)) (drop_at one.new.out (replicate 105 0) 105 one.ensures.0) in
     halves_read c.args.i.now c.args.q.now one.new.out two.new.out one.ensures.0 (two.ensures.0 ∙ left)
     one.ensures.1 (λ s h. two.ensures.1 s (omega (arith, left))) (replicate 105 0) refl
-
-pub dibits-requires : goal.dibits-requires
-dibits-requires c =
-    ap length (whole (goal.at.dibits-requires c).After-put_phases-2) ∙ length_phases c.args.i.now c.args.q.now
 
 pub returns : goal.returns
 returns c =

@@ -56,15 +56,14 @@ loop-s-preserved c =
     let to = c.turned-last in
     let l = c.loop-s in
     let bits = c.args.bits.now in (
-      omega arith,
+      simp length-set l.invariant.0,
       simp length-set l.invariant.1,
-      simp length-set l.invariant.2,
       next bits l.is l.qs l.last l.s to.result point.result i.result q.result (omega arith) (omega arith) (omega arith)
-          to.ensures point.ensures i.ensures q.ensures (record { sfits = i.type_inv }) (record { sfits = q.type_inv }) ∙ l.invariant.3,
+          to.ensures point.ensures i.ensures q.ensures (record { sfits = i.type_inv }) (record { sfits = q.type_inv }) ∙ l.invariant.2,
     )
 
 pub returns : goal.returns
 returns c =
     let l = c.loop-s in
     let bits = c.args.bits.now in
-    sym (done bits l.is l.qs l.last l.s (omega arith) (omega arith) (omega arith)) ∙ l.invariant.3
+    sym (done bits l.is l.qs l.last l.s (omega arith) (omega arith) (omega arith)) ∙ l.invariant.2

@@ -2,7 +2,7 @@
 -- Assumes nothing.
 use mathlib.Core.Path.{◌≡◌}
 use mathlib.Core.List.{List, ◌++◌}
-use Prim.Native.Nat.{ℕ, ◌-◌, ◌*◌, ◌≤◌}
+use Prim.Native.Nat.{ℕ, ◌*◌}
 use lib.IntN.{ℤ}
 use lib.ListN.{length, take, drop}
 use Rattle.bits.specs.Words.{lowest}
@@ -18,7 +18,4 @@ so_far bits is qs last s =
 
 abbrev pub invariant-loop-s : goal.invariant-loop-s
 invariant-loop-s l =
-    (l.s ≤ 210) × (length l.is ≡ 210) × (length l.qs ≡ 210) × (so_far (lowest l.bits) l.is l.qs l.last l.s ≡ turned_on l.phase (lowest l.bits))
-
-abbrev pub decreases-loop-s : goal.decreases-loop-s
-decreases-loop-s l = 210 - l.s
+    (length l.is ≡ 210) × (length l.qs ≡ 210) × (so_far (lowest l.bits) l.is l.qs l.last l.s ≡ turned_on l.phase (lowest l.bits))

@@ -9,5 +9,5 @@ unfolding most_of
 returns c =
     rw (c.from.ensures.0, c.from-2.ensures.0, c.from-3.ensures.0, c.from-4.ensures.0)
     (rw (c.from-5.ensures.0, c.from-6.ensures.0, c.from-7.ensures.0, c.from-8.ensures.0)
-    (entry_cases c.args.n c.requires
+    (entry_cases c.args.bits.n (c.args.bits.least, c.args.bits.most)
     (λ e. rw e) (λ e. rw e) (λ e. rw e) (λ e. rw e) (λ e. rw e) (λ e. rw e) (λ e. rw e) (λ e. rw e) (λ e. rw e)))

@@ -1,6 +1,6 @@
 -- `symbols::quick::wrong` meets its contract: an OR is 0 only where each of its parts is.
 -- Assumes nothing.
-use mathlib.Core.Path.{◌≡◌, ap, ◌∙◌}
+use mathlib.Core.Path.{◌≡◌, sym, ap, ◌∙◌}
 use Prim.Native.Nat.{ℕ, ◌%◌, ◌≤◌}
 use Rattle.points.specs.Sizes.{most_of, odd_of}
 use Rattle.symbols.proofs.Schemes.{entry_cases}
@@ -14,15 +14,16 @@ most_odd n h = entry_cases n h (λ e. rw e) (λ e. rw e) (λ e. rw e) (λ e. rw 
 
 pub returns : goal.returns
 returns c none =
-    let odd = ap (λ (m : ℕ). m % 2) c.most_of-most.ensures ∙ most_odd c.args.n c.requires in
+    let most : c.from-most.result ≡ most_of c.args.bits.n = c.from-most.ensures ∙ c.most_of.ensures in
+    let odd = ap (λ (m : ℕ). m % 2) most ∙ most_odd c.args.bits.n (c.args.bits.least, c.args.bits.most) in
     let five = or_none _ _ none in
     let four = or_none _ _ five.0 in
     let three = or_none _ _ four.0 in
     let two = or_none _ _ three.0 in
     record {
-      low_e = rw c.most_of-most.ensures at (c.over.ensures two.0);
-      low_f = rw c.most_of-most.ensures at (c.over-2.ensures two.1);
-      odd_e = xor_even c.args.e c.most_of-most.result three.1 ∙ odd;
-      odd_f = xor_even c.args.f c.most_of-most.result four.1 ∙ odd;
-      no_hole = c.both.ensures five.1;
+      low_e = rw most at (c.over.ensures two.0);
+      low_f = rw most at (c.over-2.ensures two.1);
+      odd_e = xor_even c.args.e c.from-most.result three.1 ∙ odd;
+      odd_f = xor_even c.args.f c.from-most.result four.1 ∙ odd;
+      no_hole = λ a b. sym c.from.ensures ∙ c.both.ensures five.1 a b;
     }
