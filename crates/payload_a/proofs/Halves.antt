@@ -1,13 +1,13 @@
--- The frame check's register takes in eight bits: twice four of the message, and a table in two halves, whose entries a computed test holds to their rule.
+-- The frame check's register takes in eight bits by a table in two halves, whose entries a computed test holds to their rule.
 -- Assumes nothing.
-use mathlib.Core.Path.{◌≡◌, refl, sym}
+use mathlib.Core.Path.{◌≡◌, refl}
 use mathlib.Core.Bool.{Bool}
-use mathlib.Core.List.{List, ◌++◌, append-nil, append_assoc}
-use Prim.Native.Nat.{ℕ, ◌+◌, ◌*◌, ◌/◌, ◌%◌, ◌^◌, ◌<◌}
+use mathlib.Core.List.{List, ◌++◌, append-nil}
+use Prim.Native.Nat.{ℕ, ◌*◌, ◌/◌, ◌%◌, ◌^◌, ◌<◌}
 use native.Mathlib.Omega.{arith}
-use lib.Bits.{bit_xor}
+use lib.Bits.{bit_xor, xor_lt}
 use lib.Dec.{T, eqb}
-use lib.ListN.{get_or, drop, replicate}
+use lib.ListN.{get_or, replicate}
 use Rattle.ground.proofs.Tests.{all, all_equal}
 use Rattle.ground.proofs.Xors.{xor_assoc}
 use Rattle.bits.specs.Words.{digits}
@@ -16,19 +16,6 @@ use Rattle.bits.proofs.Digits.{length_digits}
 use Rattle.bits.proofs.Falling.{apart, taken}
 use Rattle.bch.proofs.Nibbles.{eight_digits}
 use Rattle.payload_a.specs.Check.{check_polynomial}
-
--- ---- the bits
-
--- four bits with the digits of x, then four with those of y
-pub twice_four : (w : List ℕ) (i x y : ℕ) → y < 16 → drop i w ≡ digits 4 x ++ drop (i + 4) w → drop (i + 4) w ≡ digits 4 y ++ drop (i + 4 + 4) w
-    → drop i w ≡ digits 8 (x * 16 + y) ++ drop (i + 8) w
-twice_four w i x y h ex ey =
-    let high : (x * 16 + y) / 16 ≡ x = omega arith in
-    let low : (x * 16 + y) % 16 ≡ y = omega arith in
-    let s : i + 4 + 4 ≡ i + 8 = omega arith in
-    rw (eight_digits (x * 16 + y), high, low, ex, ey, s) (sym (append_assoc (digits 4 x) (digits 4 y) (drop (i + 8) w)))
-
--- ---- the table
 
 -- what is left of four digits with k zeros behind
 abbrev left : ℕ → ℕ → ℕ
@@ -46,9 +33,19 @@ pub half : (k : ℕ) (table : List ℕ) → T (half_right k table) → Half k ta
 half k table test = record { at = all_equal 16 (λ i. get_or table i 0) (left k) test }
 
 -- the register x takes in eight bits: the remainder of what falls out with those bits added, from the two halves
-pub eight_taken : (x b i : ℕ) → x < 2 ^ 32 → i ≡ bit_xor (x / 2 ^ 24) b
-    → bit_xor (bit_xor (x * 256 % 2 ^ 32) (left 4 (i / 16))) (left 0 (i % 16)) ≡ remainder_from 32 check_polynomial x (digits 8 b)
-eight_taken x b i h e =
+pub eight_taken : {highs lows : List ℕ} → Half 4 highs → Half 0 lows → (x b : ℕ) → x < 2 ^ 32 → b < 2 ^ 8
+    → bit_xor (bit_xor (x * 256 % 2 ^ 32) (get_or highs (bit_xor (x / 2 ^ 24) b / 16) 0)) (get_or lows (bit_xor (x / 2 ^ 24) b % 16) 0)
+    ≡ remainder_from 32 check_polynomial x (digits 8 b)
+eight_taken high low x b hx hb =
     let g = check_polynomial in
-    rw (taken 32 g 8 24 x b refl h, ← e, eight_digits i, apart 32 g (digits 4 (i / 16)) (digits 4 (i % 16)), length_digits, append-nil)
-    (xor_assoc (x * 256 % 2 ^ 32) _ _)
+    let i = bit_xor (x / 2 ^ 24) b in
+    let eight : i < 256 = xor_lt 8 (x / 2 ^ 24) b (omega arith) hb in
+    rw (
+      high.at (i / 16) (omega arith),
+      low.at (i % 16) (omega arith),
+      taken 32 g 8 24 x b refl hx,
+      eight_digits i,
+      apart 32 g (digits 4 (i / 16)) (digits 4 (i % 16)),
+      length_digits,
+      append-nil,
+    ) (xor_assoc (x * 256 % 2 ^ 32) _ _)

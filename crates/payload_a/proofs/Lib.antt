@@ -1,4 +1,5 @@
 -- The laws of the crate, in the order in which they rest on each other.
+pub mod Known
 pub mod Checks
 pub mod Halves
 pub mod Sums

@@ -7,7 +7,6 @@ use Prim.Native.Nat.{ℕ}
 use lib.IntN.{ℤ}
 use lib.ListN.{length}
 use Rattle.answers.specs.Checks.{Checked, fails, passes}
-use Rattle.answers.specs.declared.Written.{Written}
 use Rattle.answers.specs.declared.ReceivedBurst.{ReceivedBurst}
 use Rattle.answers.proofs.Telling.{written_same, burst_same}
 use Rattle.bch.specs.Codes.{code3}
@@ -21,6 +20,7 @@ use Rattle.payload_a.proofs.Coding.{block_codeword}
 use Rattle.payload_a.proofs.Framing.{length-carried}
 use Rattle.payload_a.proofs.Turnings.{length_read}
 use Rattle.payload_a.proofs.UniqueA.{fits_once}
+use Rattle.answers.specs.Answers.{Written}
 
 -- ---- send
 

@@ -12,12 +12,9 @@ use lib.Dec.{eqb, leb, ltb}
 use lib.IntN.{ℤ}
 use lib.ListN.{length, take, drop, length-drop}
 use lib.Seq.{take_at, length-take-le}
-use Rattle.answers.specs.Answers.{accepted, of_written, of_received_a, listed, ToldBurst, of_burst, refused_burst}
+use Rattle.answers.specs.Answers.{accepted, of_written, of_received_a, listed, ToldBurst, of_burst, refused_burst, ReceivedA, Written, counted_a}
 use Rattle.answers.specs.Checks.{Checked, fails, passes}
 use Rattle.answers.specs.declared.Told.{Told}
-use Rattle.answers.specs.declared.Written.{Written}
-use Rattle.answers.specs.declared.ReceivedA.{ReceivedA}
-use Rattle.answers.specs.declared.ReceivedA.TheVariants.{Accepted, Refused}
 use Rattle.answers.specs.declared.ReceivedBurst.{ReceivedBurst}
 use Rattle.answers.proofs.Telling.{because_is, burst_told, by_test, not_refused}
 use Rattle.bits.specs.Words.{Bits, differ}
@@ -44,6 +41,7 @@ use Rattle.payload_a.proofs.Framing.{bits_framed, length-framed, length-carried,
 use Rattle.payload_a.proofs.Turnings.{none_stray, bits_back, length_read}
 use Rattle.payload_a.proofs.VerdictsA.{receivable, legal, noise, no_noise}
 use Rattle.payload_a.proofs.OnceA.{receive_a_once}
+use Rattle.std.specs.Prelude.{Ok, Err}
 
 -- ---- every check
 
@@ -230,14 +228,14 @@ module _ (is qs : List ℤ) (area : List ℕ) (answer : ReceivedBurst) (after : 
   uncoded_counts receiving = by answer.answer refl
     where
       by : (r : ReceivedA) → answer.answer ≡ r → ((of_received_a r).mended ≡ 0) × ((of_received_a r).worst ≡ 0)
-      by (Accepted m p w) e = none_mended (quality_a 0 is qs area answer after receiving m p w (ap of_received_a e)) refl
-      by (Refused why) e = let t = because_is why in (ap (λ (told : Told). told.mended) t, ap (λ (told : Told). told.worst) t)
+      by (Ok k) e = none_mended (quality_a 0 is qs area answer after receiving k.mended k.protected k.worst (ap of_received_a e)) refl
+      by (Err why) e = let t = because_is why in (ap (λ (told : Told). told.mended) t, ap (λ (told : Told). told.worst) t)
 
 -- ---- a frame goes up exactly when it fits and the burst is no noise
 
 -- the answer for a burst that is accepted
 abbrev pub burst_of : ℕ → ℕ → ℕ → List ℕ → List ℕ → ReceivedBurst
-burst_of mended protected worst first second = record { answer = Accepted mended protected worst; first = listed first; second = listed second }
+burst_of mended protected worst first second = record { answer = counted_a mended protected worst; first = listed first; second = listed second }
 
 -- a call of legal lengths, with legal points and empty unavailable sub-carriers
 pub record Legal (mode : ℕ) (is qs : List ℤ) (area : List ℕ) : Type 0 where

@@ -1,4 +1,5 @@
 pub mod Check
 pub mod Segments
 pub mod CodedA
+pub mod Modes
 pub mod PromiseA

@@ -3,9 +3,8 @@
 -- `worst` of the frame that goes up (item 8), and the protected bits that differ.
 -- Assumes nothing.
 use Rattle.std.specs.Prelude.{◌≡◌, ◌⊎◌, cond, ◌&&◌, List, ◌++◌, ℕ, ◌*◌, ◌<◌, eqb, leb, ltb, ℤ, length, drop}
-use Rattle.answers.specs.Answers.{accepted, refused, of_written, of_burst, accepted_burst, refused_burst}
+use Rattle.answers.specs.Answers.{accepted, refused, of_written, of_burst, accepted_burst, refused_burst, Written}
 use Rattle.answers.specs.Checks.{Checked, fails, passes}
-use Rattle.answers.specs.declared.Written.{Written}
 use Rattle.answers.specs.declared.ReceivedBurst.{ReceivedBurst}
 use Rattle.bits.specs.Places.{places}
 use Rattle.bch.specs.Codes.{code3}

@@ -21,7 +21,7 @@ pub const FIELD3: [u8; 8] = [1, 1, 1, 1, 1, 1, 1, 1];
 // At most so many of the 56 protected bits of a burst may differ (document 02, item 3).
 pub const MOST_DIFFERING: usize = 12;
 
-// Puts bits into out, from index at on, where there is room for them.
+// Puts bits into out, from index at on, where there is room for them. (Of constant length at each call, so that the archive asks for no memmove.)
 pub fn put(bits: &[u8], at: usize, out: &mut [u8])
     ensures { out.new ≡ put_at bits.now at out.old }
 {

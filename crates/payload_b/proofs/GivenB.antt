@@ -15,7 +15,6 @@ use lib.ListN.{length, take, drop, length-drop}
 use lib.Seq.{length-take-le}
 use Rattle.answers.specs.Checks.{Checked, fails, passes}
 use Rattle.answers.specs.declared.Refusal.{Refusal}
-use Rattle.answers.specs.declared.ReceivedB.{ReceivedB}
 use Rattle.answers.proofs.Telling.{by_test}
 use Rattle.bits.specs.Words.{Bits, differ}
 use Rattle.bits.proofs.Digits.{bits_take, bits_drop, bits_append}
@@ -58,6 +57,7 @@ use Rattle.payload_b.specs.declared.stream.Course.TheVariants.{Open, Refused}
 use Rattle.payload_b.proofs.Blockwise.{blocks_in_lem, length_coded}
 use Rattle.payload_b.proofs.StatesB.{after_none, wait_low, bits_most, words_behind, sound_kept, kept_sound, now_whole, now_long, now_few}
 use Rattle.payload_b.proofs.OnceB.{by_plan}
+use Rattle.answers.specs.Answers.{ReceivedB}
 
 -- ---- what is mended in blocks, of which there may be none
 

@@ -13,7 +13,6 @@ use lib.IntN.{ℤ}
 use lib.ListN.{length, take, drop, replicate, length-append, length-drop, length-replicate, take-append-drop}
 use lib.Seq.{take_at, drop_at, length-take-le}
 use Rattle.answers.specs.Checks.{Checked, passes}
-use Rattle.answers.specs.declared.ReceivedB.TheVariants.{Accepted}
 use Rattle.bits.specs.Words.{Bits, differ}
 use Rattle.bits.proofs.Digits.{bits_take, bits_drop, bits_append}
 use Rattle.bits.proofs.Copies.{bits_zeros}
@@ -75,6 +74,7 @@ use Rattle.payload_b.proofs.StatesB.{
 }
 use Rattle.payload_b.proofs.GivenB.{fresh_kept, onward_kept}
 use Rattle.payload_b.proofs.GivenFlips.{Spoilt, spoilt}
+use Rattle.answers.specs.Answers.{counted_b}
 
 -- ---- an OFDM symbol of these bits
 
@@ -340,11 +340,11 @@ module _ {mode n : ℕ} {scheme : List ℕ} (sendable : Sendable mode n scheme) 
         refl
 
     -- it leads to the state
-    leads : SteppingB before is qs area (Accepted mended largest) (seen_so (suc k) block mended largest) area'
+    leads : SteppingB before is qs area (counted_b mended largest) (seen_so (suc k) block mended largest) area'
     leads =
-        subst (λ (c : Checked Unit). Steps c before is qs area (Accepted mended largest) (seen_so (suc k) block mended largest) area') (sym passed)
+        subst (λ (c : Checked Unit). Steps c before is qs area (counted_b mended largest) (seen_so (suc k) block mended largest) area') (sym passed)
         (symbol_legal sendable.entries bits bits_long bits_each
-        (λ (c : Checked Unit). Takes c before is qs area (Accepted mended largest) (seen_so (suc k) block mended largest) area')
+        (λ (c : Checked Unit). Takes c before is qs area (counted_b mended largest) (seen_so (suc k) block mended largest) area')
         (inl (record { out = out; fits = fits; tells = refl; state = state_is; left = refl })))
 
   -- ---- every one is given
@@ -388,7 +388,7 @@ module _ {mode n : ℕ} {scheme : List ℕ} (sendable : Sendable mode n scheme) 
   reached (suc k) block mended largest kept held =
       let b = before k block mended largest kept held in
       stepped (is k block mended largest kept held) (qs k block mended largest kept held) (area k block mended largest kept held)
-      (area' k block mended largest kept held) (Accepted mended largest)
+      (area' k block mended largest kept held) (counted_b mended largest)
       (reached k b.block b.mended b.worst (before_kept k block mended largest kept held) (before_held k block mended largest kept held))
       (leads k block mended largest kept held)
 

@@ -1,4 +1,5 @@
 -- The laws of the crate, in the order in which they rest on each other.
+pub mod ModesB
 pub mod Plans
 pub mod Blocks
 pub mod Blockwise

@@ -11,10 +11,10 @@ use lib.Dec.{eqb, leb, ltb}
 use lib.IntN.{ℤ}
 use lib.ListN.{length}
 use lib.Seq.{length-take-le}
-use Rattle.answers.specs.Answers.{refused}
+use Rattle.std.specs.Prelude.{Result, Ok, Err}
+use Rattle.answers.specs.Answers.{refused, ReceivedB, Written}
 use Rattle.answers.specs.Checks.{Checked, fails, passes}
-use Rattle.answers.specs.declared.Written.{Written}
-use Rattle.answers.specs.declared.ReceivedB.{ReceivedB}
+use Rattle.answers.specs.declared.Refusal.{Refusal}
 use Rattle.answers.proofs.Telling.{refusal_of, refusal_of_lem, because_is, written_same, received_b_same, by_test}
 use Rattle.symbols.specs.Grids.{received}
 use Rattle.payload.specs.Scrambler.{start}
@@ -25,8 +25,6 @@ use Rattle.symbols.specs.Schemes.{repeated, labelled, bad_entry}
 use Rattle.payload_b.specs.PromiseB.{planned, SendsB, SendingB, send_checked_b, grid_checked, bits_received, wire_b, ReceivesB, ReceivingB}
 use Rattle.payload_b.specs.PlanB.{Sendable, plan_of, Judged}
 use Rattle.payload_b.specs.declared.plan.Plan.{Plan}
-use Rattle.payload_b.specs.declared.plan.Verdict.{Verdict}
-use Rattle.payload_b.specs.declared.plan.Verdict.TheVariants.{Passes, Fails}
 use Rattle.symbols.proofs.Schemes.{bad_most}
 use Rattle.symbols.proofs.Mapping.{length_symbols}
 use Rattle.payload_b.proofs.Plans.{plan_passes, symbols_hold}
@@ -73,16 +71,16 @@ by_plan P mode n scheme next failed planning =
         }
 
 -- a verdict is what they find, with the sendable
-judged_of : Plan → Checked Unit → Verdict
-judged_of plan (fails number place) = Fails (refusal_of (refused number place))
-judged_of plan (passes _) = Passes plan
+judged_of : Plan → Checked Unit → Result Plan Refusal
+judged_of plan (fails number place) = Err (refusal_of (refused number place))
+judged_of plan (passes _) = Ok plan
 
-judged_of_lem : (mode n : ℕ) (scheme : List ℕ) (a : Verdict) → Judged mode n scheme a → judged_of (plan_of mode n scheme) (planned mode n scheme (passes tt)) ≡ a
+judged_of_lem : (mode n : ℕ) (scheme : List ℕ) (a : Result Plan Refusal) → Judged mode n scheme a → judged_of (plan_of mode n scheme) (planned mode n scheme (passes tt)) ≡ a
 unfolding judged_of
-judged_of_lem mode n scheme (Passes plan) p = ap (judged_of (plan_of mode n scheme)) (plan_passes p.0 (passes tt)) ∙ ap Passes (sym p.1)
-judged_of_lem mode n scheme (Fails why) p = ap (judged_of (plan_of mode n scheme)) (p (passes tt)) ∙ ap Fails (ap refusal_of (sym (because_is why)) ∙ refusal_of_lem why)
+judged_of_lem mode n scheme (Ok plan) p = ap (judged_of (plan_of mode n scheme)) (plan_passes p.0 (passes tt)) ∙ ap Ok (sym p.1)
+judged_of_lem mode n scheme (Err why) p = ap (judged_of (plan_of mode n scheme)) (p (passes tt)) ∙ ap Err (ap refusal_of (sym (because_is why)) ∙ refusal_of_lem why)
 
-pub judged_once : (mode n : ℕ) (scheme : List ℕ) (a b : Verdict) → Judged mode n scheme a → Judged mode n scheme b → a ≡ b
+pub judged_once : (mode n : ℕ) (scheme : List ℕ) (a b : Result Plan Refusal) → Judged mode n scheme a → Judged mode n scheme b → a ≡ b
 judged_once mode n scheme a b p q = sym (judged_of_lem mode n scheme a p) ∙ judged_of_lem mode n scheme b q
 
 -- ---- receive

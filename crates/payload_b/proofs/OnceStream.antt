@@ -9,10 +9,10 @@ use native.Mathlib.Nat.{mul-mod_right}
 use lib.Dec.{leb, ltb}
 use lib.IntN.{ℤ}
 use lib.ListN.{length, replicate}
-use Rattle.answers.specs.Answers.{accepted, because}
+use Rattle.std.specs.Prelude.{Option, Some, None}
+use Rattle.answers.specs.Answers.{accepted, because, ReceivedB}
 use Rattle.answers.specs.Checks.{Checked, fails, passes}
 use Rattle.answers.specs.declared.Refusal.{Refusal}
-use Rattle.answers.specs.declared.ReceivedB.{ReceivedB}
 use Rattle.answers.proofs.Telling.{refusal_of, refusal_of_lem, received_b_same, by_test}
 use Rattle.symbols.specs.Grid.{sub_carriers, symbol_points}
 use Rattle.symbols.specs.Grids.{room}
@@ -24,21 +24,20 @@ use Rattle.payload_b.specs.StreamB.{with_scheme, moving, done_in, fresh, stopped
 use Rattle.payload_b.specs.StreamB.{step_checked, blocks_now, bits_now, wire_now, onward, Stops, Takes, Steps, SteppingB}
 use Rattle.payload_b.specs.declared.stream.State.{State}
 use Rattle.payload_b.specs.declared.stream.Moving.{Moving}
+use Rattle.payload_b.specs.declared.stream.Stage.{Stage}
 use Rattle.payload_b.specs.declared.stream.Course.{Course}
 use Rattle.payload_b.specs.declared.stream.Course.TheVariants.{Open, Refused}
-use Rattle.payload_b.specs.declared.stream.Found.{Found}
-use Rattle.payload_b.specs.declared.stream.Found.TheVariants.{Sound, Forged}
 use Rattle.payload_b.proofs.Blocks.{coded}
 use Rattle.payload_b.proofs.Blockwise.{blocks_in_lem, codeword_b, lawful_b}
 use Rattle.payload_b.proofs.StatesB.{sound_kept, now_long}
 
 -- ---- the judgement of a state
 
-pub judges_once : (s : State) (a b : Found) → Judges s a → Judges s b → a ≡ b
-judges_once s (Sound a) (Sound b) p q = ap Sound (p.1 ∙ sym q.1)
-judges_once s (Sound a) Forged p q = absurd (true≢false (sym p.0 ∙ q))
-judges_once s Forged (Sound b) p q = absurd (true≢false (sym q.0 ∙ p))
-judges_once s Forged Forged p q = refl
+pub judges_once : (s : State) (a b : Option Stage) → Judges s a → Judges s b → a ≡ b
+judges_once s (Some a) (Some b) p q = ap Some (p.1 ∙ sym q.1)
+judges_once s (Some a) None p q = absurd (true≢false (sym p.0 ∙ q))
+judges_once s None (Some b) p q = absurd (true≢false (sym q.0 ∙ p))
+judges_once s None None p q = refl
 
 -- ---- opening
 

@@ -1,21 +1,27 @@
 -- Whole blocks and OFDM symbols of a frame; and the checks 1, 2, 5 and 6, one after the other: what a test says of `planned`, whatever follows.
 -- Assumes nothing.
-use mathlib.Core.Path.{◌≡◌, refl}
+use mathlib.Core.Path.{◌≡◌, refl, sym, ap, ◌∙◌}
 use mathlib.Core.Logic.{◌≢◌}
-use mathlib.Core.Bool.{and-false}
+use mathlib.Core.Bool.{false, and-false}
 use mathlib.Core.List.{List}
 use Prim.Native.Nat.{ℕ, zero, suc, ◌+◌, ◌-◌, ◌*◌, ◌/◌, ◌%◌, ◌≤◌, ◌<◌}
 use native.Mathlib.Nat.{mod-lt, div-add-mod, mul-zero}
+use native.Mathlib.Decide.{ℕ_discrete}
 use native.Mathlib.Omega.{arith}
-use borrow.Author.Tests.{le-leb, lt-leb, lt-ltb, le-ltb, eq-eqb, ne_eqb}
+use borrow.Author.Tests.{le-leb, lt-leb, lt-ltb, le-ltb, eq-eqb, ne_eqb, eqb-false}
 use lib.Dec.{ltb}
 use lib.ListN.{length}
 use Rattle.payload_b.specs.CodedB.{block_bytes, blocks_in, bits_for, symbols_for}
 use Rattle.symbols.specs.Schemes.{sum_of, bad_entry}
 use Rattle.answers.specs.Checks.{Checked, fails}
 use Rattle.payload_b.specs.PromiseB.{planned}
-use Rattle.payload_b.specs.PlanB.{Sendable}
-use Rattle.symbols.proofs.Schemes.{sum_least}
+use Rattle.payload_b.specs.ModesB.{number_of}
+use Rattle.payload_b.specs.PlanB.{Sendable, plan_of}
+use Rattle.payload_b.specs.declared.plan.Plan.{Plan}
+use Rattle.payload_b.proofs.ModesB.{number_of_lem}
+use Rattle.symbols.specs.ByScheme.{is_good, bad_place}
+use Rattle.symbols.proofs.Faults.{place_of_long}
+use Rattle.symbols.proofs.Schemes.{bad_most, sum_least}
 
 -- ---- whole blocks and whole OFDM symbols
 
@@ -88,7 +94,24 @@ module _ (mode n : ℕ) (scheme : List ℕ) (next : Checked Unit) where
               )
               refl
 
+-- a scheme that is none
+pub no_scheme : (mode n : ℕ) (scheme : List ℕ) (next : Checked Unit) → mode ≤ 2 → 0 < n → n % block_bytes mode ≡ 0 → is_good scheme ≡ false
+    → planned mode n scheme next ≡ fails 5 (bad_place scheme)
+no_scheme mode n scheme next known some whole e = by (ℕ_discrete (length scheme) 210)
+  where
+    by : Dec (length scheme ≡ 210) → planned mode n scheme next ≡ fails 5 (bad_place scheme)
+    by (yes long) =
+        let other = eqb-false (bad_entry scheme) 210 (rw (eq-eqb (length scheme) 210 long) at e) in
+        let low : bad_entry scheme < 210 = omega (arith, bad_most scheme) in
+        some_bad mode n scheme next known some whole long low ∙ ap (fails 5) (place_of_long scheme long)
+    by (no other) =
+        other_length mode n scheme next known some whole other ∙ ap (fails 5) (sym (rw (ne_eqb (length scheme) 210 other) refl))
+
 -- the checks that follow decide where these pass
 pub plan_passes : {mode n : ℕ} {scheme : List ℕ} → Sendable mode n scheme → (next : Checked Unit) → planned mode n scheme next ≡ next
 plan_passes {mode} {n} {scheme} p next =
     all_pass mode n scheme next p.known p.some p.whole p.entries.long (omega (arith, p.entries.entries)) p.few
+
+-- the mode of the plan is the frame's
+pub plan_mode : {mode n : ℕ} {scheme : List ℕ} {plan : Plan} → Sendable mode n scheme → plan ≡ plan_of mode n scheme → number_of plan.mode ≡ mode
+plan_mode {mode} p e = rw e (number_of_lem mode p.known)

@@ -15,9 +15,8 @@ use lib.Seq.{get_or-drop}
 use Rattle.ground.specs.First.{first_in, up_from}
 use Rattle.ground.proofs.Firsts.{first, first_within, first_behind, length_up}
 use Rattle.answers.specs.Checks.{Checked, fails, passes}
+use Rattle.std.specs.Prelude.{Option, None}
 use Rattle.points.specs.declared.Point.{Point}
-use Rattle.points.specs.declared.Label.{Label}
-use Rattle.points.specs.declared.Label.TheVariants.{Stray}
 use Rattle.points.specs.Constellations.{is_stray}
 use Rattle.symbols.specs.Grids.{points_from, received, index_of, occupied_at, first_occupied}
 use Rattle.symbols.specs.Schemes.{Scheme, point_label, repeated, labelled, stray_in}
@@ -137,10 +136,10 @@ module _ {scheme : List ℕ} (good : Scheme scheme) (is qs : List ℤ) where
   -- ---- check 8
 
   -- the labels of k OFDM symbols, and those of one
-  abbrev labels : ℕ → List Label
+  abbrev labels : ℕ → List (Option ℕ)
   labels k = zip_with point_label (repeated k scheme) (received k is qs)
 
-  abbrev labels_one : ℕ → List Label
+  abbrev labels_one : ℕ → List (Option ℕ)
   labels_one k = zip_with point_label (repeated 1 scheme) (received 1 (symbol_at k is) (symbol_at k qs))
 
   labels_more : (k : ℕ) → labels (suc k) ≡ labels k ++ labels_one k
@@ -161,7 +160,7 @@ module _ {scheme : List ℕ} (good : Scheme scheme) (is qs : List ℤ) where
   clean_more k p q =
       let long = labels_long good k is qs in
       let one = labels_long good 1 (symbol_at k is) (symbol_at k qs) in
-      let both = both_clear is_stray Stray (labels k) (labels_one k) (omega arith) (omega arith) in
+      let both = both_clear is_stray None (labels k) (labels_one k) (omega arith) (omega arith) in
       rw (labels_more k) (omega arith)
 
   clean_each : (k : ℕ) → Clean (suc k) → Clean k × CleanOne k
@@ -169,7 +168,7 @@ module _ {scheme : List ℕ} (good : Scheme scheme) (is qs : List ℤ) where
       let long = labels_long good k is qs in
       let one = labels_long good 1 (symbol_at k is) (symbol_at k qs) in
       let all : 210 * suc k ≤ first_in is_stray (labels k ++ labels_one k) = rw (labels_more k) at p in
-      let each = each_clear is_stray Stray (labels k) (labels_one k) (omega arith) in
+      let each = each_clear is_stray None (labels k) (labels_one k) (omega arith) in
       (omega (arith, each), omega (arith, each))
 
 -- ---- both checks

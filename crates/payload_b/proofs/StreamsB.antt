@@ -12,11 +12,9 @@ use lib.Dec.{ltb}
 use lib.IntN.{ℤ}
 use lib.ListN.{length, take, drop, replicate, length-append, length-drop, length-take}
 use lib.Seq.{take_at, drop-append-add, drop-append_seam, drop-drop, take-add, take-take, take-append-le, length-take-le}
-use Rattle.answers.specs.Answers.{accepted}
+use Rattle.answers.specs.Answers.{accepted, ReceivedB, counted_b}
 use Rattle.answers.specs.Checks.{Checked, fails, passes}
 use Rattle.answers.specs.declared.Refusal.{Refusal}
-use Rattle.answers.specs.declared.ReceivedB.{ReceivedB}
-use Rattle.answers.specs.declared.ReceivedB.TheVariants.{Accepted, Refused}
 use Rattle.answers.proofs.Telling.{because_is, by_test, not_refused}
 use Rattle.symbols.specs.Grid.{sub_carriers}
 use Rattle.symbols.specs.Grids.{received, first_occupied}
@@ -44,6 +42,7 @@ use Rattle.payload_b.proofs.OnceStream.{step_once}
 use Rattle.payload_b.proofs.Joining.{hopeless_joined, hopeless_more}
 use Rattle.payload_b.proofs.StreamPoints.{seen_front, not_passed, clear_more, clear_at}
 use Rattle.payload_b.proofs.StreamStates.{complete_long, kept, now_more, now_is, fits_more, onward_is, fresh_fits, fresh_is}
+use Rattle.std.specs.Prelude.{Ok, Err}
 
 -- ---- one step more
 
@@ -204,7 +203,7 @@ module _ {mode n : ℕ} {scheme : List ℕ} (sendable : Sendable mode n scheme) 
       bytes_held : SoFar mode n scheme is qs area k r s a → List ℕ
       bytes_held p = p.bytes ++ drop (block_bytes mode * blocks_after mode n scheme k) area
 
-  none_yet : SoFar mode n scheme is qs area 0 (Accepted 0 0) (fresh mode n scheme) area
+  none_yet : SoFar mode n scheme is qs area 0 (counted_b 0 0) (fresh mode n scheme) area
   none_yet =
       let none : block_bytes mode * blocks_after mode n scheme 0 ≡ 0
       = ap (λ (m : ℕ). block_bytes mode * m) (after_none sendable) ∙ mul-zero (block_bytes mode) in
@@ -260,19 +259,19 @@ module _ {mode n : ℕ} {scheme : List ℕ} (sendable : Sendable mode n scheme) 
         receiving
 
     -- where the grid is accepted, its points are clear, and a frame goes up
-    accepted_up : {x y : ℕ} {a0 : List ℕ} → ReceivingB mode n scheme is qs area (Accepted x y) a0
-        → (points_checked_b symbols scheme is qs ≡ passes tt) × GoesB mode n whole area (Accepted x y) a0
+    accepted_up : {x y : ℕ} {a0 : List ℕ} → ReceivingB mode n scheme is qs area (counted_b x y) a0
+        → (points_checked_b symbols scheme is qs ≡ passes tt) × GoesB mode n whole area (counted_b x y) a0
     accepted_up {x} {y} {a0} =
-        receivable (λ c. ReceivesB c mode n whole area (Accepted x y) a0 → Out (points_checked_b symbols scheme is qs)) sendable is qs area
+        receivable (λ c. ReceivesB c mode n whole area (counted_b x y) a0 → Out (points_checked_b symbols scheme is qs)) sendable is qs area
         (room_enough (256 * symbols) is qs li lq) fits
         (by_test P (ltb (first_occupied is qs 0 (256 * symbols)) (256 * symbols)) (λ _. failed 7 _ (omega arith))
         (λ _. by_test P (ltb (stray_in (repeated symbols scheme) (received symbols is qs)) (210 * symbols)) (λ _. failed 8 _ (omega arith)) (λ _. answered)))
       where
         Out : Checked Unit → Type 0
-        Out c = (c ≡ passes tt) × GoesB mode n whole area (Accepted x y) a0
+        Out c = (c ≡ passes tt) × GoesB mode n whole area (counted_b x y) a0
 
         P : Checked Unit → Type 0
-        P c = ReceivesB c mode n whole area (Accepted x y) a0 → Out c
+        P c = ReceivesB c mode n whole area (counted_b x y) a0 → Out c
 
         failed : (number place : ℕ) → 0 < number → P (fails number place)
         failed number place l p = absurd (not_refused refl p.0 l)
@@ -314,11 +313,11 @@ module _ {mode n : ℕ} {scheme : List ℕ} (sendable : Sendable mode n scheme) 
         (rw (coded mode sendable.known p.coded).whole (complete_long sendable is qs (suc j))) place p.hopeless)
 
     -- so the grid is not accepted
-    not_accepted : (x y : ℕ) (a0 : List ℕ) {r : ReceivedB} {s : State} {a : List ℕ} → ReceivingB mode n scheme is qs area (Accepted x y) a0
+    not_accepted : (x y : ℕ) (a0 : List ℕ) {r : ReceivedB} {s : State} {a : List ℕ} → ReceivingB mode n scheme is qs area (counted_b x y) a0
         → FirstRefused mode n scheme is qs area symbols r s a → ⊥
     not_accepted x y a0 receiving p = by (accepted_up receiving) p.first
       where
-        by : {number place : ℕ} → (points_checked_b symbols scheme is qs ≡ passes tt) × GoesB mode n whole area (Accepted x y) a0
+        by : {number place : ℕ} → (points_checked_b symbols scheme is qs ≡ passes tt) × GoesB mode n whole area (counted_b x y) a0
             → PointRefused scheme is qs p.j number place ⊎ BlockRefused mode n scheme is qs p.j number place → ⊥
         by up (inl q) = not_passed (sym q.found ∙ clear_at sendable.entries is qs symbols p.j p.early up.0)
         by up (inr q) =
@@ -329,21 +328,21 @@ module _ {mode n : ℕ} {scheme : List ℕ} (sendable : Sendable mode n scheme) 
 
     -- one is refused, and so is the grid
     pub whole_refuses : (r0 : ReceivedB) (a0 : List ℕ) {r : ReceivedB} {s : State} {a : List ℕ} → ReceivingB mode n scheme is qs area r0 a0
-        → FirstRefused mode n scheme is qs area (symbols_for mode n scheme) r s a → (why : Refusal) × (r0 ≡ Refused why)
-    whole_refuses (Accepted x y) a0 receiving p = absurd (not_accepted x y a0 receiving p)
-    whole_refuses (Refused why) a0 receiving p = (why, refl)
+        → FirstRefused mode n scheme is qs area (symbols_for mode n scheme) r s a → (why : Refusal) × (r0 ≡ Err why)
+    whole_refuses (Ok counts) a0 receiving p = absurd (not_accepted counts.mended counts.worst a0 receiving p)
+    whole_refuses (Err why) a0 receiving p = (why, refl)
 
     -- so the stream accepts exactly when receive B does, and then area and counts are the same
     pub whole_same : (r0 : ReceivedB) (a0 : List ℕ) {r : ReceivedB} {s : State} {a : List ℕ}
         → Streamed is qs area (fresh mode n scheme) (symbols_for mode n scheme) r s a
         → ReceivingB mode n scheme is qs area r0 a0
         → ((r ≡ r0) × (a ≡ a0) × SoFar mode n scheme is qs area (symbols_for mode n scheme) r s a)
-        ⊎ (FirstRefused mode n scheme is qs area (symbols_for mode n scheme) r s a × ((why : Refusal) × (r0 ≡ Refused why)))
+        ⊎ (FirstRefused mode n scheme is qs area (symbols_for mode n scheme) r s a × ((why : Refusal) × (r0 ≡ Err why)))
     whole_same r0 a0 {r} {s} {a} steps receiving = by (streamed symbols (omega arith) li lq steps)
       where
         by : Either symbols r s a
             → ((r ≡ r0) × (a ≡ a0) × SoFar mode n scheme is qs area symbols r s a)
-            ⊎ (FirstRefused mode n scheme is qs area symbols r s a × ((why : Refusal) × (r0 ≡ Refused why)))
+            ⊎ (FirstRefused mode n scheme is qs area symbols r s a × ((why : Refusal) × (r0 ≡ Err why)))
         by (inl p) = let same = whole_accepts r0 a0 steps receiving p in inl (same.0, same.1, p)
         by (inr p) = inr (p, whole_refuses r0 a0 receiving p)
 

@@ -12,12 +12,9 @@ use lib.Dec.{leb, ltb}
 use lib.IntN.{ℤ}
 use lib.ListN.{length, take, drop, length-append, length-replicate}
 use lib.Seq.{take_all, take_at}
-use Rattle.answers.specs.Answers.{accepted, of_written, of_received_b}
+use Rattle.answers.specs.Answers.{accepted, of_written, of_received_b, ReceivedB, Written, counted_b}
 use Rattle.answers.specs.Checks.{Checked, fails, passes}
 use Rattle.answers.specs.declared.Told.{Told}
-use Rattle.answers.specs.declared.Written.{Written}
-use Rattle.answers.specs.declared.ReceivedB.{ReceivedB}
-use Rattle.answers.specs.declared.ReceivedB.TheVariants.{Accepted, Refused}
 use Rattle.answers.proofs.Telling.{because_is, received_b_same, by_test, not_refused}
 use Rattle.bits.specs.Words.{Bits, differ}
 use Rattle.bits.specs.Bytes.{Bytes}
@@ -44,6 +41,7 @@ use Rattle.payload_b.proofs.Plans.{some_blocks, symbols_hold}
 use Rattle.payload_b.proofs.Blockwise.{bits_coded, length-coded_b}
 use Rattle.payload_b.proofs.VerdictsB.{receivable, legal}
 use Rattle.payload_b.proofs.OnceB.{by_plan, length_bits, receive_b_once}
+use Rattle.std.specs.Prelude.{Ok, Err}
 
 -- ---- what is sent for a frame, read back
 
@@ -167,9 +165,9 @@ module _ (mode n : ℕ) (scheme : List ℕ) (is qs : List ℤ) (area : List ℕ)
 -- an uncoded answer counts nothing mended, accepted or refused
 pub uncoded_counts : (n : ℕ) (scheme : List ℕ) (is qs : List ℤ) (area : List ℕ) (answer : ReceivedB) (after : List ℕ)
     → ReceivingB 0 n scheme is qs area answer after → ((of_received_b answer).mended ≡ 0) × ((of_received_b answer).worst ≡ 0)
-uncoded_counts n scheme is qs area (Accepted m w) after receiving =
-    none_mended (quality_b 0 n scheme is qs area (Accepted m w) after receiving m w refl) refl
-uncoded_counts n scheme is qs area (Refused why) after receiving =
+uncoded_counts n scheme is qs area (Ok counts) after receiving =
+    none_mended (quality_b 0 n scheme is qs area (Ok counts) after receiving counts.mended counts.worst refl) refl
+uncoded_counts n scheme is qs area (Err why) after receiving =
     let t = because_is why in (ap (λ (told : Told). told.mended) t, ap (λ (told : Told). told.worst) t)
 
 -- ---- a frame goes up exactly when it fits
@@ -207,7 +205,7 @@ module _ (mode n : ℕ) (scheme : List ℕ) (is qs : List ℤ) (area : List ℕ)
       (ap of_received_b same.0, same.1)
     where
       made : ReceivedB
-      made = Accepted (total (wire_b mode n) word frame) (worst (wire_b mode n) word frame)
+      made = counted_b (total (wire_b mode n) word frame) (worst (wire_b mode n) word frame)
 
       P : Checked Unit → Type 0
       P k = ReceivesB k mode n word area made (frame ++ drop n area)
@@ -254,7 +252,7 @@ module _ (mode : ℕ) (frame scheme : List ℕ) (is qs : List ℤ) (sent : Writt
   module _ (bytes : Bytes frame) (area : List ℕ) (roomy : length frame ≤ length area) (answer : ReceivedB) (after : List ℕ)
       (receiving : ReceivingB mode (length frame) scheme is' qs' area answer after) where
     -- clean points give back the frame that was sent, with nothing mended
-    pub round_trip : (answer ≡ Accepted 0 0) × (after ≡ frame ++ drop (length frame) area)
+    pub round_trip : (answer ≡ counted_b 0 0) × (after ≡ frame ++ drop (length frame) area)
     round_trip =
         let sendable = made.0 in
         let i = front level_i is is' made.1 in
@@ -273,4 +271,4 @@ module _ (mode : ℕ) (frame scheme : List ℕ) (is qs : List ℤ) (sent : Writt
         let none : differ (coded_b mode frame) (bits_received mode (length frame) scheme is' qs') ≡ 0 = rw same (differ_self (coded_b mode frame)) in
         let clean : worst (wire_b mode (length frame)) (bits_received mode (length frame) scheme is' qs') frame ≡ 0
         = rw same (worst_self (block_bits mode) (blocks_in mode (length frame)) (coded_b mode frame)) in
-        (received_b_same answer (Accepted 0 0) (up.0 ∙ ap₂ (λ (k j : ℕ). accepted k 0 j) none clean), up.1)
+        (received_b_same answer (counted_b 0 0) (up.0 ∙ ap₂ (λ (k j : ℕ). accepted k 0 j) none clean), up.1)

@@ -2,10 +2,8 @@
 -- Receiving is stated by what was sent, block by block; its counts are `total` and `worst` of the frame that goes up (document 02, item 8).
 -- Assumes nothing.
 use Rattle.std.specs.Prelude.{◌≡◌, ◌⊎◌, ◌≢◌, cond, ◌&&◌, List, ◌++◌, ℕ, ◌*◌, ◌%◌, eqb, leb, ltb, ℤ, length, take, drop, replicate}
-use Rattle.answers.specs.Answers.{accepted, refused, of_written, of_received_b}
+use Rattle.answers.specs.Answers.{accepted, refused, of_written, of_received_b, ReceivedB, Written}
 use Rattle.answers.specs.Checks.{Checked, fails, passes}
-use Rattle.answers.specs.declared.Written.{Written}
-use Rattle.answers.specs.declared.ReceivedB.{ReceivedB}
 use Rattle.points.specs.Constellations.{level_i, level_q}
 use Rattle.symbols.specs.Grid.{sub_carriers, symbol_points}
 use Rattle.symbols.specs.Grids.{received, index_of, first_occupied, room}

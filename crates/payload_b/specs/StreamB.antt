@@ -1,11 +1,10 @@
 -- Payload B received one OFDM symbol at a time (document 02, item 5): what opening a stream and each step promise, for every state, OFDM symbol and area.
 -- A state that no opening and no steps give is answered with 16, and nothing is changed. One that holds a refusal repeats it, whoever wrote it there.
 -- Assumes nothing.
-use Rattle.std.specs.Prelude.{◌≡◌, ◌⊎◌, ◌≢◌, Bool, true, false, cond, ◌&&◌, List, ◌++◌, ℕ, suc, ◌+◌, ◌-◌, ◌*◌, ◌/◌, ◌%◌, ◌≤◌, min, max, eqb, leb, ltb, ℤ, length, take, drop, replicate}
-use Rattle.answers.specs.Answers.{accepted, refused, because, of_received_b}
+use Rattle.std.specs.Prelude.{◌≡◌, ◌⊎◌, ◌≢◌, Bool, true, false, cond, ◌&&◌, List, ◌++◌, ℕ, suc, ◌+◌, ◌-◌, ◌*◌, ◌/◌, ◌%◌, ◌≤◌, min, max, eqb, leb, ltb, ℤ, length, take, drop, replicate, Option, MatchOption}
+use Rattle.answers.specs.Answers.{accepted, refused, because, of_received_b, ReceivedB}
 use Rattle.answers.specs.Checks.{Checked, fails, passes, failing}
 use Rattle.answers.specs.declared.Refusal.{Refusal}
-use Rattle.answers.specs.declared.ReceivedB.{ReceivedB}
 use Rattle.bits.specs.Words.{differ}
 use Rattle.packed.specs.Packed.{bits512, padded, words_of}
 use Rattle.symbols.specs.Grid.{sub_carriers, symbol_points}
@@ -21,8 +20,6 @@ use Rattle.payload_b.specs.declared.stream.Moving.{Moving}
 use Rattle.payload_b.specs.declared.stream.Stage.{Stage}
 use Rattle.payload_b.specs.declared.stream.Course.{Course}
 use Rattle.payload_b.specs.declared.stream.Course.TheVariants.{Open, Refused}
-use Rattle.payload_b.specs.declared.stream.Found.{Found}
-use Rattle.payload_b.specs.declared.stream.Found.TheVariants.{Sound, Forged}
 
 -- ---- a state by its scheme, and what moves
 
@@ -135,9 +132,8 @@ pub record Kept (s : State) : Type 0 where
 abbrev pub stage_of : State → Stage
 stage_of s = record { plan = plan_of s.mode s.size s.scheme; done = done_in s }
 
-abbrev pub Judges : State → Found → Type 0
-Judges s (Sound stage) = (sound s ≡ true) × (stage ≡ stage_of s)
-Judges s Forged = sound s ≡ false
+abbrev pub Judges : State → Option Stage → Type 0
+Judges s found = MatchOption found (sound s ≡ false) (λ stage. (sound s ≡ true) × (stage ≡ stage_of s))
 
 -- ---- opening
 

@@ -1,11 +1,9 @@
 -- A stream of Payload B step after step, each with the area as the step before left it: what is said of it after k steps, however many there are.
 -- Assumes nothing.
 use Rattle.std.specs.Prelude.{◌≡◌, ◌⊎◌, ◌≢◌, List, ◌++◌, ℕ, suc, ◌+◌, ◌*◌, ◌≤◌, ◌<◌, ℤ, take, drop, replicate}
-use Rattle.answers.specs.Answers.{accepted, refused, because, of_received_b}
+use Rattle.answers.specs.Answers.{accepted, refused, because, of_received_b, ReceivedB, counted_b}
 use Rattle.answers.specs.Checks.{fails, passes}
 use Rattle.answers.specs.declared.Refusal.{Refusal}
-use Rattle.answers.specs.declared.ReceivedB.{ReceivedB}
-use Rattle.answers.specs.declared.ReceivedB.TheVariants.{Accepted}
 use Rattle.packed.specs.Packed.{padded, words_of}
 use Rattle.symbols.specs.Grid.{sub_carriers}
 use Rattle.symbols.specs.Grids.{received}
@@ -26,7 +24,7 @@ symbol_at k levels = take sub_carriers (drop (sub_carriers * k) levels)
 
 -- k steps, each with its OFDM symbol of the grid: the last answer, and state and area after. Before the first step the answer is that nothing is mended
 pub data Streamed (is qs : List ℤ) (area : List ℕ) (opened : State) : ℕ → ReceivedB → State → List ℕ → Type 0 where
-  unseen : Streamed is qs area opened 0 (Accepted 0 0) opened area
+  unseen : Streamed is qs area opened 0 (counted_b 0 0) opened area
   seen : {k : ℕ} {r : ReceivedB} {s : State} {a : List ℕ} {r' : ReceivedB} {s' : State} {a' : List ℕ} → Streamed is qs area opened k r s a
       → SteppingB s (symbol_at k is) (symbol_at k qs) a r' s' a' → Streamed is qs area opened (suc k) r' s' a'
 

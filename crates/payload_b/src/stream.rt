@@ -1,17 +1,17 @@
 // The state of a stream: what is kept of a frame of Payload B between one OFDM symbol and the next (document 02, item 5). It is a value that a caller hands in
 // and gets back, and any value may come in.
-ghost use Rattle.std.specs.Prelude.{◌≡◌};
-ghost use Rattle.payload_b.specs.PromiseB.{mends_b};
+ghost use Rattle.std.specs.Prelude.{◌≡◌, Some, None, MatchOption};
 ghost use Rattle.payload_b.specs.StreamB.{with_scheme, moving, Judges};
 ghost use Rattle.payload_b.specs.Courses.{told_of, course_of};
 
 use crate::plan;
-use crate::plan::{Plan, Verdict};
-use answers::{Refusal, Told, Written};
+use crate::plan::Plan;
+use answers::{Refusal, Told};
 use payload::ahead;
 use symbols::grid::POINTS;
+use symbols::scheme::Scheme;
 
-// Whether a stream goes on, or was refused; then it repeats that refusal.
+// Whether a stream goes on, or was refused; then it repeats that refusal. As an Option of a refusal it would be no plainer: None would have to mean open.
 #[derive(Clone, Copy)]
 pub enum Course {
     Open,
@@ -52,8 +52,8 @@ pub struct Moving {
 pub fn with_scheme(scheme: [u8; POINTS], m: Moving) -> State
     ensures { result ≡ with_scheme scheme m }
 {
+    // By a variable, since the borrow checker takes no array straight from one field to another.
     let block = m.block;
-    let course = m.course;
     State {
         scheme,
         block,
@@ -64,7 +64,7 @@ pub fn with_scheme(scheme: [u8; POINTS], m: Moving) -> State
         register: m.register,
         mended: m.mended,
         worst: m.worst,
-        course,
+        course: m.course,
     }
 }
 
@@ -72,8 +72,8 @@ pub fn with_scheme(scheme: [u8; POINTS], m: Moving) -> State
 pub fn without_scheme(s: State) -> Moving
     ensures { result ≡ moving s }
 {
+    // By a variable, as above.
     let block = s.block;
-    let course = s.course;
     Moving {
         block,
         count: s.count,
@@ -83,7 +83,7 @@ pub fn without_scheme(s: State) -> Moving
         register: s.register,
         mended: s.mended,
         worst: s.worst,
-        course,
+        course: s.course,
     }
 }
 
@@ -94,56 +94,50 @@ pub struct Stage {
     pub done: usize,
 }
 
-// An opening and steps can give the state, and it is so far; or they cannot.
+// How far a state is, and its scheme as one that was looked at.
 #[derive(Clone, Copy)]
-pub enum Found {
-    Sound(Stage),
-    Forged,
+pub struct Found<'a> {
+    pub stage: Stage,
+    pub scheme: Scheme<'a>,
 }
 
-// How many bits are mended in a block.
-fn mends(mode: u8) -> usize
-    ensures { result ≡ mends_b mode }
+// How far a state is, one that is open, of this scheme and what moves; none where no opening and no steps can give it.
+pub fn judged<'a>(scheme: &'a [u8], s: Moving) -> Option<Found<'a>>
+    ensures { MatchOption result (Judges (with_scheme scheme.now s) None) (λ found. Judges (with_scheme scheme.now s) (Some found.stage) × (found.scheme.entries.now ≡ scheme.now)) }
 {
-    if mode == 0 {
-        return 0;
-    }
-    if mode == 1 { 4 } else { 8 }
-}
-
-// Whether an opening and steps can give a state that is open, of this scheme and what moves.
-pub fn judged(scheme: &[u8], s: Moving) -> Found
-    ensures { Judges (with_scheme scheme.now s) result }
-{
-    let Verdict::Passes(plan) = plan::judged(s.mode, s.size, scheme) else {
-        return Found::Forged;
+    let Ok(frame) = plan::checked(s.mode, s.size, scheme) else {
+        return None;
     };
+    let plan = frame.plan;
     if plan.symbols < s.seen {
-        return Found::Forged;
+        return None;
     }
     let bits = plan.sum * s.seen;
-    let size = plan::block_bits(s.mode);
-    let done = packed::least(bits / size, plan.blocks);
+    let size = plan.mode.block_bits();
+    let done = (bits / size).min(plan.blocks);
     let count = if done < plan.blocks { bits % size } else { 0 };
     if s.count != count {
-        return Found::Forged;
+        return None;
     }
-    if s.register != ahead::register_after(plan::block_bytes(s.mode) * done) {
-        return Found::Forged;
+    if s.register != ahead::register_after(plan.mode.block_bytes() * done) {
+        return None;
     }
     if !packed::ends_at(&s.block, count) {
-        return Found::Forged;
+        return None;
     }
-    if mends(s.mode) < s.worst {
-        return Found::Forged;
+    if plan.mode.mends() < s.worst {
+        return None;
     }
     if s.mended < s.worst {
-        return Found::Forged;
+        return None;
     }
     if s.worst * done < s.mended {
-        return Found::Forged;
+        return None;
     }
-    Found::Sound(Stage { plan, done })
+    Some(Found {
+        stage: Stage { plan, done },
+        scheme: frame.scheme,
+    })
 }
 
 // What a course tells: 0 where it is open.
@@ -151,8 +145,8 @@ pub fn told(course: Course) -> Told
     ensures { result ≡ told_of course }
 {
     match course {
-        Course::Open => answers::of_written(Written::Accepted),
-        Course::Refused(why) => answers::of_refusal(why),
+        Course::Open => Told::from(Ok::<(), Refusal>(())),
+        Course::Refused(why) => Told::from(why),
     }
 }
 

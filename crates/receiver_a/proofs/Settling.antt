@@ -1,17 +1,15 @@
 -- The answer for a frame that was delivered, or not: uncoded, by the 784 bits received; coded, by the codewords within 16 of its two blocks.
 -- Assumes nothing.
 use mathlib.Core.Path.{◌≡◌, refl, sym, ap, ap₂, ◌∙◌}
-use mathlib.Core.Bool.{Bool, true, false}
 use mathlib.Core.List.{List, [], ◌++◌}
 use mathlib.Core.Logic.{inl, inr}
 use Prim.Native.Nat.{ℕ, ◌+◌, ◌≤◌, max}
 use native.Mathlib.Omega.{arith}
 use lib.ListN.{length, take, drop, length-append, take-append-drop}
 use lib.Seq.{take_at, drop_at, length-take-le}
-use Rattle.answers.specs.Answers.{listed, ToldWord, accepted_burst, no_burst}
+use Rattle.answers.specs.Answers.{listed, ToldWord, accepted_burst, no_burst, Decoded, counted_a}
+use Rattle.answers.specs.declared.Refusal.{Refusal}
 use Rattle.answers.specs.declared.Refusal.TheVariants.{Uncorrectable}
-use Rattle.answers.specs.declared.Decoded.{Decoded}
-use Rattle.answers.specs.declared.Decoded.TheVariants as decoded
 use Rattle.answers.specs.declared.DecodedWord.{DecodedWord}
 use Rattle.bits.specs.Words.{Bits, differ}
 use Rattle.bits.specs.Places.{places}
@@ -29,7 +27,8 @@ use Rattle.payload_a.specs.CodedA.{information, blocks_a, coded_a}
 use Rattle.payload_a.specs.PromiseA.{wire_a, Answered}
 use Rattle.payload_a.proofs.Coding.{bits_information, first_long, second_long, coded_uncoded, fits_uncoded}
 use Rattle.payload_a.proofs.Coding.{first_block, second_block, covered, each_block, block_0, block_1}
-use Rattle.receiver_a.specs.Steps.{Pair, Delivered, settled_as}
+use Rattle.std.specs.Prelude.{Result, Ok, Err}
+use Rattle.receiver_a.specs.Steps.{Pair, Delivered, Mends}
 
 -- ---- two words of n bits, one behind the other
 
@@ -54,37 +53,40 @@ clean : (u : ℕ) (v w : List ℕ) → v ≡ w
     (places (block_at row_bits 1 v) (block_at row_bits 1 w))
 clean u v w e = rw (e, differ_self w, worst_self row_bits 2 w, places_self (block_at row_bits 0 w), places_self (block_at row_bits 1 w))
 
-pub uncoded_settled : (w area : List ℕ) (u : ℕ) (right : Bool) (part : List ℕ) → length w ≡ 784 → 94 ≤ length area → Delivered w (take 94 area) right part
-    → Answered 0 w u area (settled_as right 0 u 0 (listed []) (listed [])) (part ++ drop 94 area)
-uncoded_settled w area u true part long room (l, bytes, sent) =
-    let e : coded_a 0 part ≡ w = coded_uncoded part ∙ sent in
-    inl (record {
-      frame = part;
-      fits = rw e at (fits_clean (wire_a 0) part (l ∙ length-take-le 94 area room) bytes);
-      tells = clean u (coded_a 0 part) w e;
-      left = refl;
-    })
-uncoded_settled w area u false part long room (same, none) =
-    inr (inr (record {
-      each = λ e. absurd (omega arith);
-      none = λ frame fits. none frame (fits.long ∙ sym (length-take-le 94 area room)) (fits_uncoded w frame long fits);
-      tells = refl;
-      left = kept 94 area same;
-    }))
+module _ (w area : List ℕ) (u : ℕ) (part : List ℕ) (room : 94 ≤ length area) where
+  pub uncoded_right : Delivered w (take 94 area) (Ok tt) part
+      → Answered 0 w u area (record { answer = counted_a 0 u 0; first = listed []; second = listed [] }) (part ++ drop 94 area)
+  uncoded_right (l, bytes, sent) =
+      let e : coded_a 0 part ≡ w = coded_uncoded part ∙ sent in
+      inl (record {
+        frame = part;
+        fits = rw e at (fits_clean (wire_a 0) part (l ∙ length-take-le 94 area room) bytes);
+        tells = clean u (coded_a 0 part) w e;
+        left = refl;
+      })
+
+  pub uncoded_wrong : {why : Refusal} → length w ≡ 784 → Delivered w (take 94 area) (Err why) part → Answered 0 w u area (no_burst why) (part ++ drop 94 area)
+  uncoded_wrong long (wrong, same, none) =
+      rw wrong (inr (inr (record {
+        each = λ e. absurd (omega arith);
+        none = λ frame fits. none frame (fits.long ∙ sym (length-take-le 94 area room)) (fits_uncoded w frame long fits);
+        tells = refl;
+        left = kept 94 area same;
+      })))
 
 -- ---- a row that decode mends, or not
 
--- the codeword within 16, the number of places that differ and the list of them, or there is none
-abbrev pub Mends : List ℕ → List ℕ → List ℕ → Decoded → Type 0
-Mends row v list (decoded.Accepted n) = Within code3 row v × (n ≡ differ v row) × (list ≡ listed (places v row))
-Mends row v list (decoded.Refused r) = (v : List ℕ) → Within code3 row v → ⊥
+-- what is told of it, by what decode answers
+abbrev of_decoded : ℕ → List ℕ → Decoded → Result (ℕ × List ℕ) Refusal
+of_decoded number places (Ok n) = Ok (n, places)
+of_decoded number places (Err why) = Err (Uncorrectable number)
 
-pub row_mended : (row out after : List ℕ) (answer : DecodedWord) → Bits row → length row ≡ row_bits → length out ≡ row_bits
-    → Decoding 3 row out answer after → Mends row after answer.places answer.answer
-row_mended row out after answer bits long room =
-    by_answer 3 refl row out answer after bits long (omega arith) (Mends row after answer.places)
+pub row_mended : (number : ℕ) (row out after : List ℕ) (answer : DecodedWord) → Bits row → length row ≡ row_bits → length out ≡ row_bits
+    → Decoding 3 row out answer after → Mends number row (of_decoded number answer.places answer.answer) after
+row_mended number row out after answer bits long room =
+    by_answer 3 refl row out answer after bits long (omega arith) (λ (d : Decoded). Mends number row (of_decoded number answer.places d) after)
     (λ h. let e = h.left ∙ covered h.codeword out room in rw e (h.within, refl, ap (λ (t : ToldWord). t.places) h.tells))
-    (λ h r. h.none)
+    (λ h r. (refl, h.none))
 
 -- ---- a coded frame
 
@@ -170,28 +172,31 @@ module _ {a b : List ℕ} (rows : Pair row_bits a b) (area : List ℕ) (u : ℕ)
             differ-append v a w b (lv ∙ sym rows.first_long),
           )
 
-      pub coded_settled : (m k : ℕ) (first second part : List ℕ) (right : Bool) → m ≡ differ v a + differ w b → k ≡ max (differ v a) (differ w b)
-          → first ≡ listed (places v a)
-          → second ≡ listed (places w b) → 58 ≤ length area → Delivered (take 248 v ++ take 248 w) (take 58 area) right part
-          → Answered 1 (a ++ b) u area (settled_as right m u k first second) (part ++ drop 58 area)
-      coded_settled m k first second part true em ek ef es room (l, bytes, sent) =
-          let made = rebuilt part sent in
-          let lv = hv.codeword.long in
-          inl (record {
-            frame = part;
-            fits = record {
-              long = l ∙ length-take-le 58 area room;
-              bytes = bytes;
-              near = each_block (λ block. count_at row_bits block (coded_a 1 part) (a ++ b) ≤ 16)
-                  (rw (made, first_block v w lv, first_is) hv.near) (rw (made, second_block v w lv hw.codeword.long, second_is) hw.near);
-            };
-            tells = rw (ef, es) (telling m k em ek (coded_a 1 part) made);
-            left = refl;
-          })
-      coded_settled m k first second part false em ek ef es room (same, none) =
-          inr (inr (record {
-            each = λ _. each_block (λ block. Mendable code3 block (a ++ b)) first_mendable (w, rw second_is hw);
-            none = λ frame fits. none frame (fits.long ∙ sym (length-take-le 58 area room)) (carries frame fits);
-            tells = refl;
-            left = kept 58 area same;
-          }))
+      module _ (part : List ℕ) (room : 58 ≤ length area) where
+        pub coded_right : (m k : ℕ) (first second : List ℕ) → m ≡ differ v a + differ w b → k ≡ max (differ v a) (differ w b)
+            → first ≡ listed (places v a) → second ≡ listed (places w b) → Delivered (take 248 v ++ take 248 w) (take 58 area) (Ok tt) part
+            → Answered 1 (a ++ b) u area (record { answer = counted_a m u k; first = first; second = second }) (part ++ drop 58 area)
+        coded_right m k first second em ek ef es (l, bytes, sent) =
+            let made = rebuilt part sent in
+            let lv = hv.codeword.long in
+            inl (record {
+              frame = part;
+              fits = record {
+                long = l ∙ length-take-le 58 area room;
+                bytes = bytes;
+                near = each_block (λ block. count_at row_bits block (coded_a 1 part) (a ++ b) ≤ 16)
+                    (rw (made, first_block v w lv, first_is) hv.near) (rw (made, second_block v w lv hw.codeword.long, second_is) hw.near);
+              };
+              tells = rw (ef, es) (telling m k em ek (coded_a 1 part) made);
+              left = refl;
+            })
+
+        pub coded_wrong : {why : Refusal} → Delivered (take 248 v ++ take 248 w) (take 58 area) (Err why) part
+            → Answered 1 (a ++ b) u area (no_burst why) (part ++ drop 58 area)
+        coded_wrong (wrong, same, none) =
+            rw wrong (inr (inr (record {
+              each = λ _. each_block (λ block. Mendable code3 block (a ++ b)) first_mendable (w, rw second_is hw);
+              none = λ frame fits. none frame (fits.long ∙ sym (length-take-le 58 area room)) (carries frame fits);
+              tells = refl;
+              left = kept 58 area same;
+            })))

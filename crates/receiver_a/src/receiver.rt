@@ -1,18 +1,20 @@
-// Payload A, from the points of two OFDM symbols to a frame.
-ghost use Rattle.std.specs.Prelude.{◌≡◌, true, false, ◌++◌, ◌+◌, ◌*◌, ◌≤◌, length, take};
+// Payload A, from the points of two OFDM symbols to a frame. That the area has room for it is a clause of each function down to the one that writes it, and no
+// type: a struct of a list that is written would lend it on at each call. Of I and Q together two functions would have the use.
+ghost use Rattle.std.specs.Prelude.{◌≡◌, true, false, ◌++◌, ◌+◌, ◌*◌, ◌≤◌, length};
 ghost use Rattle.bits.specs.Words.{Bits, digits};
 ghost use Rattle.points.specs.Dqpsk.{dibits, stray_at};
 ghost use Rattle.symbols.specs.Grids.{received};
-ghost use Rattle.bch.specs.Codes.{code3};
-ghost use Rattle.payload_a.specs.Segments.{row_bits, symbol_bits};
+ghost use Rattle.payload_a.specs.Segments.{symbol_bits};
 ghost use Rattle.payload_a.specs.CodedA.{bytes_a};
+ghost use Rattle.payload_a.specs.Modes.{number_of};
 ghost use Rattle.payload_a.specs.PromiseA.{elements_a, noise_checked, points_checked, Answered, Receives};
-ghost use Rattle.receiver_a.specs.Steps.{Pair, Rows, flat_of, Delivered, settled_as};
+ghost use Rattle.receiver_a.specs.Steps.{Pair, Rows, flat_of, Delivered, Mends, burst_of};
 
 use crate::rows;
-use answers::{Decoded, PLACES, ReceivedA, ReceivedBurst, Refusal};
-use payload::{quality, scrambler};
-use payload_a::segments::{BLOCK, MOST_DIFFERING};
+use answers::{DecodedWord, MendedA, PLACES, ReceivedBurst, Refusal};
+use payload::scrambler;
+use payload_a::mode::ModeA;
+use payload_a::segments::{BLOCK, MOST_DIFFERING, SYMBOL};
 use payload_a::{ELEMENTS, check, segments};
 use symbols::grid::SUB_CARRIERS;
 use symbols::{Fault, phases};
@@ -26,7 +28,7 @@ fn is_check(check: u32, bits: &[u8]) -> bool
 }
 
 // Unscrambles bits, in place, and writes the frame to the area if its check is right.
-fn deliver(bits: &mut [u8], area: &mut [u8]) -> bool
+fn deliver(bits: &mut [u8], area: &mut [u8]) -> Result<(), Refusal>
     requires { Bits bits.old × (length bits.old ≡ 8 * length area.old + 32) }
     ensures { Delivered bits.old area.old result area.new }
 {
@@ -34,128 +36,116 @@ fn deliver(bits: &mut [u8], area: &mut [u8]) -> bool
     let end = bits.len();
     scrambler::scramble(scrambler::START, bits);
     let check = check::check_of(&bits[0..n]);
-    if is_check(check, &bits[n..end]) {
-        bits::put_bytes(&bits[0..n], area);
-        return true;
+    if !is_check(check, &bits[n..end]) {
+        return Err(Refusal::WrongCheck);
     }
-    false
+    bits::put_bytes(&bits[0..n], area);
+    Ok(())
 }
 
-// The answer for a frame that was delivered, or not.
-fn settled(
-    right: bool,
-    mended: usize,
+// An uncoded frame. Two rows go by value, as document 01 has them, so that their elements are bits is a clause.
+fn uncoded(
+    rows: [[u8; BLOCK]; 2],
     differing: usize,
-    worst: usize,
-    first: [u16; PLACES],
-    second: [u16; PLACES],
-) -> ReceivedBurst
-    ensures { result ≡ settled_as right mended differing worst first second }
-{
-    if !right {
-        return answers::no_burst(Refusal::WrongCheck);
-    }
-    let answer = ReceivedA::Accepted {
-        mended,
-        protected: differing,
-        worst,
-    };
-    ReceivedBurst {
-        answer,
-        first,
-        second,
-    }
-}
-
-// An uncoded frame.
-fn uncoded(rows: [[u8; BLOCK]; 2], differing: usize, area: &mut [u8]) -> ReceivedBurst
+    area: &mut [u8],
+) -> Result<ReceivedBurst, Refusal>
     requires { Rows rows × (94 ≤ length area.old) }
-    ensures { Answered 0 (flat_of rows) differing area.old result area.new }
+    ensures { Answered 0 (flat_of rows) differing area.old (burst_of result) area.new }
 {
     let mut bits = segments::flat(rows);
-    let right = deliver(&mut bits, &mut area[0..94]);
-    settled(right, 0, differing, 0, [0; PLACES], [0; PLACES])
+    deliver(&mut bits, &mut area[0..94])?;
+    Ok(ReceivedBurst {
+        answer: Ok(MendedA {
+            mended: 0,
+            protected: differing,
+            worst: 0,
+        }),
+        first: [0; PLACES],
+        second: [0; PLACES],
+    })
 }
 
-// The information of two codewords, 248 bits of each.
-fn information(first: &[u8], second: &[u8]) -> [u8; 496]
-    requires { (length first.now ≡ row_bits) × (length second.now ≡ row_bits) }
-    ensures { result ≡ take code3.k first.now ++ take code3.k second.now }
+// Mends a row, and writes its codeword to word: answers how many bits it mended, and their places, or a refusal with the row's number.
+fn mend(
+    number: usize,
+    row: &[u8; BLOCK],
+    word: &mut [u8; BLOCK],
+) -> Result<(usize, [u16; PLACES]), Refusal>
+    requires { Bits row.now }
+    ensures { Mends number row.now result word.new }
 {
-    let mut out = [0u8; 496];
-    segments::put(&first[0..248], 0, &mut out);
-    segments::put(&second[0..248], 248, &mut out);
-    out
-}
-
-// Room for a codeword of code 3.
-fn row() -> [u8; BLOCK]
-    ensures { length result ≡ row_bits }
-{
-    [0u8; BLOCK]
+    let DecodedWord { answer, places } = decoder::decode(3, row, word);
+    match answer {
+        Ok(mended) => Ok((mended, places)),
+        Err(_) => Err(Refusal::Uncorrectable(number)),
+    }
 }
 
 // A coded frame: each row is mended.
-fn coded(rows: [[u8; BLOCK]; 2], differing: usize, area: &mut [u8]) -> ReceivedBurst
+fn coded(
+    rows: [[u8; BLOCK]; 2],
+    differing: usize,
+    area: &mut [u8],
+) -> Result<ReceivedBurst, Refusal>
     requires { Rows rows × (58 ≤ length area.old) }
-    ensures { Answered 1 (flat_of rows) differing area.old result area.new }
+    ensures { Answered 1 (flat_of rows) differing area.old (burst_of result) area.new }
 {
-    let mut first = row();
-    let of_first = decoder::decode(3, &rows[0], &mut first);
-    let answer = of_first.answer;
-    let Decoded::Accepted(in_first) = answer else {
-        return answers::no_burst(Refusal::Uncorrectable(0));
+    let mut word0 = [0u8; BLOCK];
+    let (in_first, first) = mend(0, &rows[0], &mut word0)?;
+    let mut word1 = [0u8; BLOCK];
+    let (in_second, second) = mend(1, &rows[1], &mut word1)?;
+    let mut bits: [u8; 496] = rows::joined(&word0[0..248], &word1[0..248]);
+    deliver(&mut bits, &mut area[0..58])?;
+    let counts = MendedA {
+        mended: in_first + in_second,
+        protected: differing,
+        worst: in_first.max(in_second),
     };
-    let mut second = row();
-    let of_second = decoder::decode(3, &rows[1], &mut second);
-    let answer = of_second.answer;
-    let Decoded::Accepted(in_second) = answer else {
-        return answers::no_burst(Refusal::Uncorrectable(1));
-    };
-    let mut bits = information(&first, &second);
-    let right = deliver(&mut bits, &mut area[0..58]);
-    let worst = quality::larger(in_first, in_second);
-    let at_first = of_first.places;
-    let at_second = of_second.places;
-    settled(
-        right,
-        in_first + in_second,
-        differing,
-        worst,
-        at_first,
-        at_second,
-    )
+    Ok(ReceivedBurst {
+        answer: Ok(counts),
+        first,
+        second,
+    })
 }
 
 // The answer for 784 bits in two rows, and so many protected bits that differ.
-fn answer(mode: u8, rows: [[u8; BLOCK]; 2], differing: usize, area: &mut [u8]) -> ReceivedBurst
-    requires { (mode ≤ 1) × Rows rows × (bytes_a mode ≤ length area.old) }
-    ensures { Answered mode (flat_of rows) differing area.old result area.new }
+fn answer(
+    mode: ModeA,
+    rows: [[u8; BLOCK]; 2],
+    differing: usize,
+    area: &mut [u8],
+) -> Result<ReceivedBurst, Refusal>
+    requires { Rows rows × (bytes_a (number_of mode) ≤ length area.old) }
+    ensures { Answered (number_of mode) (flat_of rows) differing area.old (burst_of result) area.new }
 {
-    if mode == 0 {
-        uncoded(rows, differing, area)
-    } else {
-        coded(rows, differing, area)
+    match mode {
+        ModeA::Uncoded => uncoded(rows, differing, area),
+        ModeA::Coded => coded(rows, differing, area),
     }
 }
 
 // Check 11, and then the answer, for the bits of two OFDM symbols.
-fn read(mode: u8, first: &[u8], second: &[u8], area: &mut [u8]) -> ReceivedBurst
-    requires { (mode ≤ 1) × Pair symbol_bits first.now second.now × (bytes_a mode ≤ length area.old) }
-    ensures { Receives (noise_checked (first.now ++ second.now)) mode (first.now ++ second.now) area.old result area.new }
+fn read(
+    mode: ModeA,
+    first: &[u8; SYMBOL],
+    second: &[u8; SYMBOL],
+    area: &mut [u8],
+) -> Result<ReceivedBurst, Refusal>
+    requires { Pair symbol_bits first.now second.now × (bytes_a (number_of mode) ≤ length area.old) }
+    ensures { Receives (noise_checked (first.now ++ second.now)) (number_of mode) (first.now ++ second.now) area.old (burst_of result) area.new }
 {
     let differing = rows::differing(first) + rows::differing(second);
     if MOST_DIFFERING < differing {
-        return answers::no_burst(Refusal::Noise);
+        return Err(Refusal::Noise);
     }
     let rows = [rows::block(first), rows::block(second)];
     answer(mode, rows, differing, area)
 }
 
 // The answer for points that are legal: the phase of the first OFDM symbol's last point is carried on.
-fn legal(mode: u8, i: &[i16], q: &[i16], area: &mut [u8]) -> ReceivedBurst
-    requires { (mode ≤ 1) × (elements_a ≤ length i.now) × (elements_a ≤ length q.now) × (bytes_a mode ≤ length area.old) × (stray_at (received 2 i.now q.now) ≡ length (received 2 i.now q.now)) }
-    ensures { Receives (noise_checked (dibits (received 2 i.now q.now))) mode (dibits (received 2 i.now q.now)) area.old result area.new }
+fn legal(mode: ModeA, i: &[i16], q: &[i16], area: &mut [u8]) -> Result<ReceivedBurst, Refusal>
+    requires { (elements_a ≤ length i.now) × (elements_a ≤ length q.now) × (bytes_a (number_of mode) ≤ length area.old) × (stray_at (received 2 i.now q.now) ≡ length (received 2 i.now q.now)) }
+    ensures { Receives (noise_checked (dibits (received 2 i.now q.now))) (number_of mode) (dibits (received 2 i.now q.now)) area.old (burst_of result) area.new }
 {
     let first = phases::read(0, &i[0..SUB_CARRIERS], &q[0..SUB_CARRIERS]);
     let second = phases::read(
@@ -166,15 +156,19 @@ fn legal(mode: u8, i: &[i16], q: &[i16], area: &mut [u8]) -> ReceivedBurst
     read(mode, &first.bits, &second.bits, area)
 }
 
-// Checks 7 and 8, and then the answer.
-pub(crate) fn receive(mode: u8, i: &[i16], q: &[i16], area: &mut [u8]) -> ReceivedBurst
-    requires { (mode ≤ 1) × (elements_a ≤ length i.now) × (elements_a ≤ length q.now) × (bytes_a mode ≤ length area.old) }
-    ensures { Receives (points_checked i.now q.now) mode (dibits (received 2 i.now q.now)) area.old result area.new }
+// Checks 7 and 8, and then the answer. (`symbols` knows no refusals: its faults are told here.)
+pub(crate) fn receive(
+    mode: ModeA,
+    i: &[i16],
+    q: &[i16],
+    area: &mut [u8],
+) -> Result<ReceivedBurst, Refusal>
+    requires { (elements_a ≤ length i.now) × (elements_a ≤ length q.now) × (bytes_a (number_of mode) ≤ length area.old) }
+    ensures { Receives (points_checked i.now q.now) (number_of mode) (dibits (received 2 i.now q.now)) area.old (burst_of result) area.new }
 {
-    let fault = phases::first_fault(2, i, q);
-    match fault {
-        Fault::Occupied(index) => answers::no_burst(Refusal::Occupied(index)),
-        Fault::StrayPoint(index) => answers::no_burst(Refusal::StrayPoint(index)),
-        Fault::Clear => legal(mode, i, q, area),
+    match phases::first_fault(2, i, q) {
+        Err(Fault::Occupied(index)) => Err(Refusal::Occupied(index)),
+        Err(Fault::StrayPoint(index)) => Err(Refusal::StrayPoint(index)),
+        Ok(()) => legal(mode, i, q, area),
     }
 }

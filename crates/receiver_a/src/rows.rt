@@ -1,28 +1,28 @@
 // The row of bits that an OFDM symbol carries, and its protected fields, clause 7.4.5 and Table 6.
-ghost use Rattle.std.specs.Prelude.{◌≡◌, ◌++◌, ◌≤◌, length};
+ghost use Rattle.std.specs.Prelude.{◌≡◌, ◌++◌, ◌+◌, ◌≤◌, length};
 ghost use Rattle.bits.specs.Words.{differ};
-ghost use Rattle.payload_a.specs.Segments.{segment_bits, symbol_bits, field1, field2, field3, carried_by, protected_in};
+ghost use Rattle.payload_a.specs.Segments.{field1, field2, field3, carried_by, protected_in};
 
 use payload_a::segments;
-use payload_a::segments::{BLOCK, SEGMENT};
+use payload_a::segments::{BLOCK, SYMBOL};
 
-// The block of two segments.
-fn gather(a: &[u8], b: &[u8]) -> [u8; BLOCK]
-    requires { (length a.now ≡ segment_bits) × (length b.now ≡ segment_bits) }
-    ensures { result ≡ a.now ++ b.now }
+// Two lists one behind the other, which have N elements.
+pub(crate) fn joined<const N: usize>(first: &[u8], second: &[u8]) -> [u8; N]
+    requires { length first.now + length second.now ≡ N }
+    ensures { result ≡ first.now ++ second.now }
 {
-    let mut out = [0u8; BLOCK];
-    segments::put(a, 0, &mut out);
-    segments::put(b, SEGMENT, &mut out);
+    let mut out = [0u8; N];
+    segments::put(first, 0, &mut out);
+    segments::put(second, first.len(), &mut out);
     out
 }
 
 // The block that an OFDM symbol carries, out of the middle of its 420 bits.
-pub(crate) fn block(symbol: &[u8]) -> [u8; BLOCK]
-    requires { length symbol.now ≡ symbol_bits }
+#[tactic(auto, unfolding(payload_a::specs::Segments::carried_by))]
+pub(crate) fn block(symbol: &[u8; SYMBOL]) -> [u8; BLOCK]
     ensures { result ≡ carried_by symbol.now }
 {
-    gather(&symbol[10..206], &symbol[216..412])
+    joined(&symbol[10..206], &symbol[216..412])
 }
 
 // The number of places where a protected field as received differs.
@@ -30,20 +30,15 @@ fn places_apart(field: &[u8], received: &[u8]) -> usize
     requires { length field.now ≡ length received.now }
     ensures { (result ≡ differ field.now received.now) × (result ≤ length field.now) }
 {
-    let mut n: usize = 0;
-    let mut i: usize = 0;
-    while i < field.len() {
-        if field[i] != received[i] {
-            n += 1;
-        }
-        i += 1;
-    }
-    n
+    field
+        .iter()
+        .zip(received)
+        .filter(|(sent, got)| sent != got)
+        .count()
 }
 
 // The number of protected bits of an OFDM symbol that differ.
-pub(crate) fn differing(symbol: &[u8]) -> usize
-    requires { length symbol.now ≡ symbol_bits }
+pub(crate) fn differing(symbol: &[u8; SYMBOL]) -> usize
     ensures { (result ≡ differ (field1 ++ field2 ++ field3) (protected_in symbol.now)) × (result ≤ 28) }
 {
     places_apart(&segments::FIELD1, &symbol[0..10])

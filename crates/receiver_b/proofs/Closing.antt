@@ -1,7 +1,6 @@
 -- Receiving Payload B: of the bits that wait the first go, as blocks that are mended and are so much more of the frame, or as one that cannot be mended.
 -- Assumes nothing.
 use mathlib.Core.Path.{◌≡◌, refl, sym, ap, ◌∙◌}
-use mathlib.Core.Bool.{true, false}
 use mathlib.Core.List.{List, [], ◌++◌, append-nil, append_assoc}
 use Prim.Native.Nat.{ℕ, ◌+◌, ◌-◌, ◌*◌, ◌≤◌, ◌<◌, max}
 use native.Mathlib.Nat.{mul-add, sub_self}
@@ -12,25 +11,23 @@ use lib.Seq.{take-add, drop-drop, drop-append-le, length-take-le}
 use Rattle.bits.proofs.Copies.{part_written}
 use Rattle.packed.proofs.Paddings.{drop-take}
 use Rattle.payload_b.specs.CodedB.{block_bytes, block_bits}
-use Rattle.payload_b.proofs.Blocks.{mends_few}
-use Rattle.receiver_b.specs.Steps.{NoneNear, Writes, Counts, Done, Going, Moves, Full, Closes, Shortens}
+use Rattle.payload_b.proofs.Blocks.{block_bits_few, mends_few}
+use Rattle.packed.specs.Packed.{bits512}
+use Rattle.packed.proofs.Walks.{length_512}
+use Rattle.receiver_b.specs.Steps.{NoneNear, Writes, Counts, Done, Going, Moves, Sticks, Full, Closes, Shortens}
 use Rattle.receiver_b.specs.declared.stream.Tally.{Tally}
 use Rattle.receiver_b.proofs.Progress.{done_more, stuck_kept, stuck_next}
-use Rattle.receiver_b.proofs.Taking.{is_going, no_fill, moves_still, moves_none, moves_on}
+use Rattle.receiver_b.proofs.Taking.{no_fill, moves_none, moves_on, sticks_on}
 
 -- ---- tallies
 
 -- of the bits that wait the first n are gone, as m blocks that are mended
 abbrev pub closed : ℕ → ℕ → ℕ → ℕ → ℕ → Tally → Tally
-closed n m after mended worst s = record { count = s.count - n; done = s.done + m; register = after; mended = mended; worst = worst; good = true }
-
--- as a block that cannot be
-abbrev pub lost : ℕ → Tally → Tally
-lost n s = record { count = s.count - n; done = s.done; register = s.register; mended = s.mended; worst = s.worst; good = false }
+closed n m after mended worst s = record { count = s.count - n; done = s.done + m; register = after; mended = mended; worst = worst }
 
 -- ---- blocks gone
 
-module _ (mode blocks : ℕ) (area held : List ℕ) (s : Tally) (good : s.good ≡ true) (few : s.done < blocks) (n : ℕ) (waits : n ≤ s.count) where
+module _ (mode blocks : ℕ) (area held : List ℕ) (s : Tally) (few : s.done < blocks) (n : ℕ) (waits : n ≤ s.count) where
   -- what is behind them
   abbrev rest : List ℕ
   rest = take (s.count - n) (drop n held)
@@ -43,11 +40,14 @@ module _ (mode blocks : ℕ) (area held : List ℕ) (s : Tally) (good : s.good �
       ∙ sym (append_assoc g.bits (take n held) rest)
 
   -- a block cannot be mended
-  pub moves_lost : mode ≤ 2 → length (take n held) ≡ block_bits mode → NoneNear mode (take n held) → {area' : List ℕ} → area' ≡ area
-      → Moves mode blocks [] area held s area' (drop n held) (lost n s)
-  moves_lost known long none same = rw same (moves_still refl (λ base fed t.
-      let g = is_going {base = base} {fed = fed} good t in
-      rw (append-nil, parted g) (stuck_kept known (stuck_next known g.done long none g.since few) rest)))
+  pub sticks_here : mode ≤ 2 → length (take n held) ≡ block_bits mode → NoneNear mode (take n held) → {area' : List ℕ} → area' ≡ area
+      → Sticks mode blocks [] area held s area' s.done
+  sticks_here known long none same =
+      rw same (record {
+        long = refl;
+        beyond = refl;
+        stuck = λ base fed g. rw (append-nil, parted g) (stuck_kept known (stuck_next known g.done long none g.since few) rest);
+      })
 
   -- m blocks are mended, and their bytes are put behind those before
   module _ (m : ℕ) (at end : ℕ) (ea : at ≡ block_bytes mode * s.done) (ee : end ≡ at + block_bytes mode * m)
@@ -83,8 +83,7 @@ module _ (mode blocks : ℕ) (area held : List ℕ) (s : Tally) (good : s.good �
       front = rw (← ea) (take_put at (end - at) area out (omega arith));
       beyond = rw (← ends) (drop_put at end area out (omega arith) fits long);
       taken =
-          λ base fed t.
-          let g = is_going {base = base} {fed = fed} good t in
+          λ base fed g.
           record {
             m = g.m + m;
             since = omega (arith, g.since);
@@ -98,16 +97,11 @@ module _ (mode blocks : ℕ) (area held : List ℕ) (s : Tally) (good : s.good �
 
 -- ---- a full block is finished
 
-module _ {mode : ℕ} {area block : List ℕ} {s : Tally} (h : Full mode area s) (long : length (take (block_bits mode) block) ≡ block_bits mode) where
-  -- it cannot be mended
-  pub closes_lost : NoneNear mode (take (block_bits mode) block) → {area' : List ℕ} → area' ≡ area
-      → Closes mode area block s area' (lost (block_bits mode) s)
-  closes_lost none same = record {
-    shorter = refl;
-    counts = λ blocks few. record { few = omega arith; mended = h.mended };
-    moves = λ blocks few held e. moves_lost mode blocks area held s h.good few (block_bits mode) h.full h.known (rw e long) (rw e none) same;
-  }
+-- it is whole
+pub whole_block : (mode : ℕ) (words : List ℕ) → length (take (block_bits mode) (bits512 words)) ≡ block_bits mode
+whole_block mode words = length-take-le (block_bits mode) (bits512 words) (omega (arith, length_512 words, block_bits_few mode))
 
+module _ {mode : ℕ} {area block : List ℕ} {s : Tally} (h : Full mode area s) (long : length (take (block_bits mode) block) ≡ block_bits mode) where
   -- mended, it is one block more of the frame
   pub closes_mended : (at end : ℕ) → at ≡ block_bytes mode * s.done → end ≡ at + block_bytes mode → {count after : ℕ} {out : List ℕ}
       → Writes mode s.register (take (block_bits mode) block) count after out
@@ -117,7 +111,7 @@ module _ {mode : ℕ} {area block : List ℕ} {s : Tally} (h : Full mode area s)
     counts = λ blocks few. record { few = omega arith; mended = omega (arith, h.mended, w.near, mends_few mode) };
     moves =
         λ blocks few held e.
-        moves_closed mode blocks area held s h.good few (block_bits mode) h.full 1 at end ea (omega arith) (omega (arith, h.fits)) out
+        moves_closed mode blocks area held s few (block_bits mode) h.full 1 at end ea (omega arith) (omega (arith, h.fits)) out
         (w.long ∙ omega arith) (λ base k bits f d. rw e (done_more d w long));
   }
 
@@ -141,3 +135,12 @@ shortens_more {mode} {blocks} {area₀} {held} {area} {area'} {block} {s₀} {s}
     let on : Moves mode blocks [] area (drop at held) s area' (drop (s₀.count - s'.count) held) s'
     = rw (← end, ← drop-drop (block_bits mode) at held) (c.moves blocks few (drop at held) (sym e)) in
     record { fewer = omega (arith, h.fewer, c.shorter); counts = c.counts blocks few; moves = moves_on h.moves on }
+
+-- or it cannot be mended
+pub shortens_stuck : {mode blocks : ℕ} {area₀ held area area' : List ℕ} {s₀ s : Tally} (block : List ℕ) → mode ≤ 2 → Shortens mode blocks area₀ held s₀ area s
+    → s.done < blocks → block_bits mode ≤ s.count → length (take (block_bits mode) block) ≡ block_bits mode
+    → NoneNear mode (take (block_bits mode) block) × (area' ≡ area)
+    → take (block_bits mode) block ≡ take (block_bits mode) (drop (s₀.count - s.count) held) → Sticks mode blocks [] area₀ held s₀ area' s.done
+shortens_stuck {mode} {blocks} {held = held} {area = area} {s₀ = s₀} {s = s} block known h few full long none e =
+    sticks_on h.moves h.counts.few
+    (sticks_here mode blocks area (drop (s₀.count - s.count) held) s few (block_bits mode) full known (rw e at long) (rw e at none.0) none.1)

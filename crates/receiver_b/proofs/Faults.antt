@@ -7,6 +7,7 @@ use Prim.Native.Nat.{ℕ, ◌*◌, ◌≤◌}
 use borrow.Author.Tests.{eq-eqb, le-leb}
 use lib.IntN.{ℤ}
 use lib.ListN.{length}
+use Rattle.std.specs.Prelude.{Result, Ok, Err}
 use Rattle.answers.specs.Checks.{Checked, fails, passes}
 use Rattle.symbols.specs.Grids.{received}
 use Rattle.symbols.specs.Schemes.{Scheme, bad_entry, repeated, stray_in}
@@ -15,7 +16,8 @@ use Rattle.symbols.specs.ByScheme.{readable, fault_in}
 use Rattle.symbols.proofs.Faults.{fault_made, fault_clear}
 use Rattle.payload_b.specs.PromiseB.{points_checked_b}
 use Rattle.symbols.specs.declared.Fault.{Fault}
-use Rattle.symbols.specs.declared.Fault.TheVariants.{Clear, Occupied, StrayPoint}
+use Rattle.symbols.specs.declared.Fault.TheVariants.{Occupied, StrayPoint}
+use Rattle.receiver_b.specs.Steps.{no_fault}
 
 -- m OFDM symbols can be looked at
 pub is_readable : {scheme : List ℕ} → Scheme scheme → (m : ℕ) → m ≤ 256 → (is qs : List ℤ) → 256 * m ≤ length is → 256 * m ≤ length qs
@@ -30,21 +32,21 @@ is_readable {scheme} good m few is qs li lq =
     )
 
 -- what both checks say of a fault
-abbrev pub says : Fault → Checked Unit
-says Clear = passes tt
-says (Occupied at) = fails 7 at
-says (StrayPoint at) = fails 8 at
+abbrev pub says : Result Unit Fault → Checked Unit
+says (Ok none) = passes tt
+says (Err (Occupied at)) = fails 7 at
+says (Err (StrayPoint at)) = fails 8 at
 
 -- of that which is found first
 module _ {scheme : List ℕ} (good : Scheme scheme) (m : ℕ) (few : m ≤ 256) (is qs : List ℤ) (li : 256 * m ≤ length is) (lq : 256 * m ≤ length qs) where
   abbrev stray_first : ℕ
   stray_first = stray_in (repeated m scheme) (received m is qs)
 
-  looked_at : {f : Fault} → f ≡ fault_in m scheme is qs → f ≡ fault_at stray_first m is qs
+  looked_at : {f : Result Unit Fault} → f ≡ fault_in m scheme is qs → f ≡ fault_at stray_first m is qs
   looked_at e = rw (is_readable good m few is qs li lq) at e
 
-  pub fault_says : {f : Fault} → f ≡ fault_in m scheme is qs → points_checked_b m scheme is qs ≡ says f
+  pub fault_says : {f : Result Unit Fault} → f ≡ fault_in m scheme is qs → points_checked_b m scheme is qs ≡ says f
   fault_says e = fault_made stray_first m is qs says ∙ sym (ap says (looked_at e))
 
-  pub none_stray : Clear ≡ fault_in m scheme is qs → 210 * m ≤ stray_first
+  pub none_stray : no_fault ≡ fault_in m scheme is qs → 210 * m ≤ stray_first
   none_stray e = fault_clear stray_first m is qs (looked_at e)

@@ -7,8 +7,6 @@ use Prim.Native.Nat.{ℕ, ◌*◌, ◌≤◌}
 use native.Mathlib.Omega.{arith}
 use lib.ListN.{length, take, drop, replicate, length-replicate}
 use lib.Seq.{take-append-le, length-take-le}
-use Rattle.answers.specs.declared.Decoded.{Decoded}
-use Rattle.answers.specs.declared.Decoded.TheVariants.{Accepted, Refused}
 use Rattle.answers.specs.declared.DecodedWord.{DecodedWord}
 use Rattle.bits.specs.Words.{Bits, differ}
 use Rattle.bits.specs.Bytes.{Bytes, bits_of}
@@ -26,6 +24,8 @@ use Rattle.payload_b.specs.PromiseB.{mends_b}
 use Rattle.payload_b.proofs.Blocks.{block_bits_few, block_bytes_few, block_whole, coded, block_coded}
 use Rattle.receiver_b.specs.Steps.{NoneNear, Writes}
 use Rattle.packed.proofs.Fronts.{same_front}
+use Rattle.std.specs.Prelude.{Ok, Err}
+use Rattle.answers.specs.Answers.{Decoded}
 
 -- ---- what decode_packed promises
 
@@ -36,8 +36,8 @@ pub record Informs (mode : ℕ) (block bits : List ℕ) (count : ℕ) : Type 0 w
 
 -- there is one, or none
 abbrev pub Mends : ℕ → List ℕ → List ℕ → Decoded → Type 0
-Mends mode block bits (Accepted count) = Informs mode block bits count
-Mends mode block bits (Refused why) = NoneNear mode block
+Mends mode block bits (Ok count) = Informs mode block bits count
+Mends mode block bits (Err why) = NoneNear mode block
 
 module _ (mode : ℕ) (h : mode ≤ 2) (n : mode ≢ 0) where
   informs : {block out : List ℕ} {answer : DecodedWord} {after : List ℕ} (mended : Mended (code_b mode) block out answer after)
@@ -61,10 +61,9 @@ module _ (mode : ℕ) (h : mode ≤ 2) (n : mode ≢ 0) where
       (Mends mode block after) informs (λ hopeless r. record { coded = n; none = hopeless.none })
 
 -- the block is the first bits that are packed
-pub mended_packed : (mode : ℕ) → 1 ≤ mode → mode ≤ 2 → (words : List ℕ) (answer : DecodedWord) (after : List ℕ) → DecodingPacked mode words answer after
+pub mended_packed : (mode : ℕ) → mode ≢ 0 → mode ≤ 2 → (words : List ℕ) (answer : DecodedWord) (after : List ℕ) → DecodingPacked mode words answer after
     → Mends mode (take (block_bits mode) (bits512 words)) (bits512 after) answer.answer
-mended_packed mode some h words answer after decoding =
-    let n : mode ≢ 0 = λ (e : mode ≡ 0). omega arith in
+mended_packed mode n h words answer after decoding =
     let c = coded mode h n in
     let k = block_bits mode in
     let size : bits_by (named mode) ≡ k = ap bits_by c.code ∙ c.whole in

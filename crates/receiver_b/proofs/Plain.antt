@@ -15,11 +15,10 @@ use Rattle.packed.specs.Packed.{bits_from}
 use Rattle.payload.specs.Scrambler.{scrambled_from, register_after}
 use Rattle.payload.proofs.Scrambling.{length_scrambled, scrambled_again, scrambled_append, register_more}
 use Rattle.payload_b.proofs.Blocks.{block_uncoded}
-use Rattle.receiver_b.specs.Steps.{Writes, Done, Wanted, TakesBlocks}
+use Rattle.receiver_b.specs.Steps.{Writes, Done, Wanted, Clears}
 use Rattle.receiver_b.specs.declared.stream.Tally.{Tally}
 use Rattle.packed.proofs.Fronts.{same_front}
 use Rattle.receiver_b.proofs.Progress.{done_more}
-use Rattle.receiver_b.proofs.Taking.{wanted}
 use Rattle.receiver_b.proofs.Closing.{closed, moves_closed}
 
 -- ---- bytes that are done
@@ -101,19 +100,19 @@ module _ {blocks : ℕ} {area : List ℕ} {s : Tally} (h : Wanted 0 blocks s are
   put = put_mid s.done (s.done + m - s.done) area out
 
   -- they are so many blocks more of the frame
-  pub takes_bytes : Bytes put → TakesBlocks 0 blocks area (bits_from 41 0 run) s put after
+  pub takes_bytes : Bytes put → Clears 0 blocks area (bits_from 41 0 run) s put after
   takes_bytes all_bytes =
       let held = bits_from 41 0 run in
       let at = s.done in
       let k = at + m - at in
       let bytes = bytes_before out (post_of at k area) (bytes_behind (take at area) (out ++ post_of at k area) all_bytes) in
       let all : s.count - (s.count - 8 * m) ≡ 8 * m = omega (arith, few.0) in
-      let moves = moves_closed 0 blocks area held s h.good h.next (8 * m) few.0 m at (at + m) (omega arith) (omega arith)
+      let moves = moves_closed 0 blocks area held s h.next (8 * m) few.0 m at (at + m) (omega arith) (omega arith)
       (omega (arith, few.1, h.room)) out (long ∙ omega arith) (λ base k bits f d. rw (sent, long) at (done_bytes out bytes d)) in (
         record {
           fewer = omega arith;
           counts = record { few = few.1; mended = omega (arith, h.counts.mended) };
           moves = rw all moves;
         },
-        λ w. omega (arith, em, (wanted blocks after w).1),
+        λ next. omega (arith, em, next),
       )

@@ -97,7 +97,7 @@ hopeless_wider {c} {m} {fed} h whole more k l =
 
 module _ {mode blocks : ℕ} (known : mode ≤ 2) where
   -- a state that is stuck stays so
-  pub stuck_kept : {base : Tally} {fed : List ℕ} {s : Tally} → Stuck mode blocks base fed s → (more : List ℕ) → Stuck mode blocks base (fed ++ more) s
+  pub stuck_kept : {base : Tally} {fed : List ℕ} {done : ℕ} → Stuck mode blocks base fed done → (more : List ℕ) → Stuck mode blocks base (fed ++ more) done
   stuck_kept {fed = fed} k more =
       let c = coded mode known k.coded in
       record {
@@ -111,8 +111,8 @@ module _ {mode blocks : ℕ} (known : mode ≤ 2) where
 
   -- the next block cannot be mended
   pub stuck_next : {base : Tally} {m : ℕ} {bits f : List ℕ} {register k worst : ℕ} → Done mode base m bits f register k worst → {block : List ℕ}
-      → length block ≡ block_bits mode → NoneNear mode block → {s : Tally} → s.done ≡ base.done + m → s.done < blocks
-      → Stuck mode blocks base (bits ++ block) s
+      → length block ≡ block_bits mode → NoneNear mode block → {done : ℕ} → done ≡ base.done + m → done < blocks
+      → Stuck mode blocks base (bits ++ block) done
   stuck_next {base} {m} {bits} {f} d {block} lk none since next =
       let n = (code_b mode).n in
       let alone : block_at n 0 block ≡ block = block_last n [] block 0 (sym (mul-zero n)) (lk ∙ sym (coded mode known none.coded).whole) in

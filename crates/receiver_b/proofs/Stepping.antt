@@ -1,20 +1,18 @@
 -- A step of a stream of Payload B: what is taken in of one OFDM symbol, from a state that is sound, is what the step promises.
 -- Assumes nothing.
-use mathlib.Core.Path.{◌≡◌, refl, sym, ap, ap₂, subst, ◌∙◌}
+use mathlib.Core.Path.{◌≡◌, refl, sym, ap, ap₂, ◌∙◌}
 use mathlib.Core.Logic.{inl, inr}
-use mathlib.Core.Bool.{Bool, true, false}
 use mathlib.Core.List.{List, [], ◌++◌, append-nil}
 use Prim.Native.Nat.{ℕ, suc, ◌+◌, ◌-◌, ◌*◌, ◌/◌, ◌≤◌, ◌<◌, min, max}
-use native.Mathlib.Nat.{mul-add, mul-suc, mul-le-mul_left, mul-le-mul_right, le_trans, le-div_iff_mul-le, div-eq_of_lt-le}
+use native.Mathlib.Nat.{mul-add, mul-suc, mul-le-mul_right, le_trans, le-div_iff_mul-le, div-eq_of_lt-le}
 use native.Mathlib.Numerals.{add-one}
 use native.Mathlib.Decide.{dec_le}
 use native.Mathlib.Omega.{arith}
 use lib.IntN.{ℤ}
 use lib.ListN.{length, take, drop, replicate, length-append, take-append-drop}
 use lib.Seq.{take_at, drop_at, drop-drop, length-take-le}
-use Rattle.answers.specs.Answers.{refused}
+use Rattle.answers.specs.Answers.{refused, counted_b}
 use Rattle.answers.specs.declared.Refusal.TheVariants.{Uncorrectable}
-use Rattle.answers.specs.declared.ReceivedB.TheVariants.{Accepted, Refused}
 use Rattle.packed.specs.Packed.{bits512, padded, words_of}
 use Rattle.packed.proofs.Once.{Wide}
 use Rattle.packed.proofs.Walks.{length_512}
@@ -23,7 +21,6 @@ use Rattle.symbols.specs.Grids.{points_from}
 use Rattle.symbols.specs.Schemes.{sum_of, repeated, labelled}
 use Rattle.symbols.specs.ByScheme.{read_by}
 use Rattle.symbols.proofs.Readings.{received-one}
-use Rattle.points.specs.Lent.{our_quadrants}
 use Rattle.payload.specs.Scrambler.{register_after}
 use Rattle.payload.specs.Wire.{total, worst, Fits}
 use Rattle.payload_b.specs.CodedB.{block_bytes, block_bits, blocks_in, symbols_for}
@@ -31,23 +28,26 @@ use Rattle.payload_b.specs.StreamB.{done_in, done_next, stopped, Kept, at_hand, 
 use Rattle.payload_b.specs.declared.stream.State.{State}
 use Rattle.payload_b.specs.declared.stream.Stage.{Stage}
 use Rattle.payload_b.specs.declared.stream.Course.TheVariants.{Open}
+use Rattle.payload_b.specs.ModesB.{number_of}
+use Rattle.payload_b.proofs.ModesB.{number_of_lem}
 use Rattle.payload_b.proofs.Plans.{whole_blocks}
 use Rattle.payload_b.proofs.Blocks.{block_bits_pos, block_bits_few, mends_few, coded}
 use Rattle.payload_b.proofs.Blockwise.{blocks_in_lem}
 use Rattle.payload_b.proofs.StatesB.{after_few, before_all, wait_few, wait_none, bits_after, after_next, hand_long, now_few}
-use Rattle.receiver_b.specs.Steps.{Sane, Going, Stuck, Standing, TakesIn, Ready, Clean, Taking}
+use Rattle.receiver_b.specs.Steps.{Sane, Going, Enters, Sticks, TakesIn, Ready, Clean, Taking}
 use Rattle.receiver_b.specs.declared.stream.Stream.{Stream}
 use Rattle.receiver_b.specs.declared.stream.Tally.{Tally}
 use Rattle.receiver_b.proofs.Faults as faults
 use Rattle.receiver_b.proofs.Receiving.{none_stray}
 use Rattle.receiver_b.proofs.Progress.{hopeless_wider}
-use Rattle.receiver_b.proofs.Taking.{base_taken, rest_same}
+use Rattle.receiver_b.proofs.Taking.{base_taken}
+use Rattle.std.specs.Prelude.{Result, Err}
 
 -- ---- the step
 
 -- a state's tally
 abbrev pub tally_of : State → Tally
-tally_of s = record { count = s.count; done = done_in s; register = s.register; mended = s.mended; worst = s.worst; good = true }
+tally_of s = record { count = s.count; done = done_in s; register = s.register; mended = s.mended; worst = s.worst }
 
 -- a state that goes on, with this unfinished block and tally
 abbrev pub carried_on : State → List ℕ → Tally → State
@@ -95,7 +95,7 @@ module _ (s : State) (kept : Kept s) (more : s.seen < symbols_for s.mode s.size 
   blocks_hold = omega (arith, rw (← kept.waits) at (after_next kept.sendable s.seen some_left))
 
   module _ (area : List ℕ) {area' : List ℕ} (block : List ℕ) {t : Tally}
-      (on : TakesIn s.mode blocks (labelled s.scheme (points_from is qs 1 210)) area (bits512 s.block) (tally_of s) area' (bits512 block) t) where
+      (on : Enters s.mode blocks (labelled s.scheme (points_from is qs 1 210)) area (bits512 s.block) (tally_of s) area' (bits512 block) t) where
     abbrev held : List ℕ
     held = bits512 block
 
@@ -183,32 +183,32 @@ module _ (s : State) (kept : Kept s) (more : s.seen < symbols_for s.mode s.size 
           let count = counted.1 in
           cc
 
-      pub goes_on : length block ≡ 8 → Wide block → GoesOn s is qs area (Accepted t.mended t.worst) (carried_on s block t) area'
+      pub goes_on : length block ≡ 8 → Wide block → GoesOn s is qs area (counted_b t.mended t.worst) (carried_on s block t) area'
       goes_on long wide = record { out = out; fits = fits; tells = refl; state = state long wide; left = left }
 
-    -- one cannot be
-    pub halts : Stuck s.mode blocks (tally_of s) hand t
-        → Halts s is qs area (Refused (Uncorrectable t.done)) (stopped (Uncorrectable t.done) s) (replicate s.size 0 ++ drop s.size area')
-    halts k =
-        let c = coded s.mode kept.sendable.known k.coded in
-        let y = block_bytes s.mode in
-        let enough : suc k.m ≤ (s.count + sum_of s.scheme) / size
-        = (le-div_iff_mul-le (block_bits_pos s.mode)).1 (omega (arith, k.whole, hand_long s kept is qs)) in
-        let one : k.m < blocks_now s = omega (arith, blocks_hold, enough, k.since, k.next) in
-        let wide = hopeless_wider k.hopeless (rw c.whole k.whole) [] (blocks_now s) one in
-        let end : y * t.done ≤ s.size = omega (arith, mul-le-mul_left y on.0.counts.few, whole_blocks s.mode s.size kept.sendable.whole) in
-        record {
-          coded = k.coded;
-          block = k.m;
-          hopeless = rw (append-nil, c.whole) at wide;
-          stops = record {
-            why = Uncorrectable t.done;
-            told = ap (refused 9) k.since;
-            tells = ap (refused 9) k.since;
-            state = refl;
-            left = ap (λ (w : List ℕ). replicate s.size 0 ++ w) (rest_same (y * t.done) s.size area' area end on.1.beyond);
-          };
-        }
+  -- one cannot be
+  pub halts : {area area' : List ℕ} {done : ℕ}
+      → Sticks s.mode blocks (labelled s.scheme (points_from is qs 1 210)) area (bits512 s.block) (tally_of s) area' done
+      → Halts s is qs area (Err (Uncorrectable done)) (stopped (Uncorrectable done) s) (replicate s.size 0 ++ drop s.size area')
+  halts {area} {done = done} h =
+      let k = h.stuck (tally_of s) (take s.count (bits512 s.block)) (base_taken s.mode blocks area (bits512 s.block) (tally_of s)) in
+      let c = coded s.mode kept.sendable.known k.coded in
+      let enough : suc k.m ≤ (s.count + sum_of s.scheme) / size
+      = (le-div_iff_mul-le (block_bits_pos s.mode)).1 (omega (arith, k.whole, hand_long s kept is qs)) in
+      let one : k.m < blocks_now s = omega (arith, blocks_hold, enough, k.since, k.next) in
+      let wide = hopeless_wider k.hopeless (rw c.whole k.whole) [] (blocks_now s) one in
+      record {
+        coded = k.coded;
+        block = k.m;
+        hopeless = rw (append-nil, c.whole) at wide;
+        stops = record {
+          why = Uncorrectable done;
+          told = ap (refused 9) k.since;
+          tells = ap (refused 9) k.since;
+          state = refl;
+          left = ap (λ (w : List ℕ). replicate s.size 0 ++ w) (rw (← whole_blocks s.mode s.size kept.sendable.whole) at h.beyond);
+        };
+      }
 
 -- ---- as the code does it
 
@@ -216,7 +216,7 @@ module _ (s : State) (kept : Kept s) (more : s.seen < symbols_for s.mode s.size 
 abbrev pub stream_of : State → ℕ → Stream
 stream_of s done = record {
   block = s.block;
-  tally = record { count = s.count; done = done; register = s.register; mended = s.mended; worst = s.worst; good = true };
+  tally = record { count = s.count; done = done; register = s.register; mended = s.mended; worst = s.worst };
 }
 
 module _ {s : State} {stage : Stage} {is qs : List ℤ} {area : List ℕ} (h : Clean s stage is qs area) where
@@ -229,50 +229,43 @@ module _ {s : State} {stage : Stage} {is qs : List ℤ} {area : List ℕ} (h : C
   abbrev one_q : 256 * 1 ≤ length qs
   one_q = omega (arith, h.next.long_q)
 
-  pub ready : Ready s.scheme s.mode stage.plan (stream_of s stage.done) 1 is qs area
+  pub ready : Ready s.scheme stage.plan (stream_of s stage.done) 1 is qs area
   ready =
       let p = kept_here.sendable in
       rw h.next.staged.far (record {
         entries = p.entries;
         summed = refl;
-        known = p.known;
-        sane = kept_sane s kept_here;
+        sane = rw (number_of_lem s.mode p.known) (kept_sane s kept_here);
         long_i = one_i;
         long_q = one_q;
-        room = omega (arith, h.next.room, whole_blocks s.mode s.size p.whole);
+        room = rw (number_of_lem s.mode p.known) (omega (arith, h.next.room, whole_blocks s.mode s.size p.whole));
       })
 
   -- no point is stray, so that its bits are read
-  bits_read : {quadrants : List ℕ} → quadrants ≡ our_quadrants
-      → read_by quadrants s.scheme (points_from is qs 1 210) ≡ labelled s.scheme (points_from is qs 1 210)
+  bits_read : read_by s.scheme (points_from is qs 1 210) ≡ labelled s.scheme (points_from is qs 1 210)
   unfolding repeated
-  bits_read ours =
+  bits_read =
       let good = kept_here.sendable.entries in
       let none = faults.none_stray good 1 (omega arith) is qs one_i one_q h.clear in
-      rw (received-one is qs, append-nil s.scheme) at (none_stray ours good 1 is qs none)
+      rw (received-one is qs, append-nil s.scheme) at (none_stray good 1 is qs none)
 
   -- what the code takes in
-  module _ {quadrants area' : List ℕ} (block : List ℕ) {t : Tally} (ours : quadrants ≡ our_quadrants)
-      (on : TakesIn s.mode stage.plan.blocks (read_by quadrants s.scheme (points_from is qs 1 210)) area (bits512 s.block)
-      (stream_of s stage.done).tally area' (bits512 block) t) where
-    as_stated : TakesIn s.mode (blocks_in s.mode s.size) (labelled s.scheme (points_from is qs 1 210)) area (bits512 s.block) (tally_of s) area'
-        (bits512 block) t
-    as_stated = rw (bits_read ours, h.next.staged.far) at on
+  module _ (area' : List ℕ) (r : Result Stream ℕ)
+      (on : TakesIn (number_of stage.plan.mode) stage.plan.blocks (read_by s.scheme (points_from is qs 1 210)) area (bits512 s.block)
+      (stream_of s stage.done).tally area' r) where
+    pub as_stated : TakesIn s.mode (blocks_in s.mode s.size) (labelled s.scheme (points_from is qs 1 210)) area (bits512 s.block) (tally_of s) area' r
+    as_stated = rw (bits_read, h.next.staged.far, number_of_lem s.mode kept_here.sendable.known) at on
 
-    stands : Standing t.good s.mode (blocks_in s.mode s.size) (tally_of s) (at_hand s is qs) area' (bits512 block) t
-    stands =
-        as_stated.1.taken (tally_of s) (take s.count (bits512 s.block))
-        (base_taken s.mode (blocks_in s.mode s.size) area (bits512 s.block) (tally_of s) refl)
+  -- the step goes on
+  pub step_goes : {area' : List ℕ} (block : List ℕ) {t : Tally}
+      → Enters s.mode (blocks_in s.mode s.size) (labelled s.scheme (points_from is qs 1 210)) area (bits512 s.block) (tally_of s) area' (bits512 block) t
+      → length block ≡ 8 → Wide block → Taking s is qs area (counted_b t.mended t.worst) (carried_on s block t) area'
+  step_goes block on long wide =
+      inl (goes_on s kept_here h.next.more is qs area block on
+      (on.1.taken (tally_of s) (take s.count (bits512 s.block)) (base_taken s.mode (blocks_in s.mode s.size) area (bits512 s.block) (tally_of s))) long wide)
 
-    -- the step goes on
-    pub step_goes : t.good ≡ true → length block ≡ 8 → Wide block → Taking s is qs area (Accepted t.mended t.worst) (carried_on s block t) area'
-    step_goes good long wide =
-        inl (goes_on s kept_here h.next.more is qs area block as_stated
-        (subst (λ (b : Bool). Standing b s.mode (blocks_in s.mode s.size) (tally_of s) (at_hand s is qs) area' (bits512 block) t) good stands) long wide)
-
-    -- or is refused
-    pub step_halts : t.good ≡ false
-        → Taking s is qs area (Refused (Uncorrectable t.done)) (stopped (Uncorrectable t.done) s) (replicate s.size 0 ++ drop s.size area')
-    step_halts bad =
-        inr (halts s kept_here h.next.more is qs area block as_stated
-        (subst (λ (b : Bool). Standing b s.mode (blocks_in s.mode s.size) (tally_of s) (at_hand s is qs) area' (bits512 block) t) bad stands))
+  -- or is refused
+  pub step_halts : {area' : List ℕ} {done : ℕ}
+      → Sticks s.mode (blocks_in s.mode s.size) (labelled s.scheme (points_from is qs 1 210)) area (bits512 s.block) (tally_of s) area' done
+      → Taking s is qs area (Err (Uncorrectable done)) (stopped (Uncorrectable done) s) (replicate s.size 0 ++ drop s.size area')
+  step_halts k = inr (halts s kept_here h.next.more is qs k)

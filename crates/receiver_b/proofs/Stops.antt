@@ -8,11 +8,9 @@ use borrow.Author.Tests.{ltb-true}
 use lib.Dec.{ltb}
 use lib.IntN.{ℤ}
 use lib.ListN.{drop, replicate}
-use Rattle.answers.specs.Answers.{refused, because, of_received_b}
+use Rattle.answers.specs.Answers.{refused, because, of_received_b, ReceivedB}
 use Rattle.answers.specs.Checks.{Checked, fails, passes}
 use Rattle.answers.specs.declared.Refusal.{Refusal}
-use Rattle.answers.specs.declared.ReceivedB.{ReceivedB}
-use Rattle.answers.specs.declared.ReceivedB.TheVariants.{Refused}
 use Rattle.answers.proofs.Telling.{by_test}
 use Rattle.symbols.specs.Grids.{received, first_occupied}
 use Rattle.symbols.specs.Schemes.{repeated, stray_in}
@@ -20,10 +18,11 @@ use Rattle.symbols.proofs.Indices.{index_lt}
 use Rattle.payload_b.specs.PromiseB.{points_checked_b}
 use Rattle.payload_b.specs.StreamB.{with_scheme, moving, stopped, Stops}
 use Rattle.payload_b.specs.declared.stream.Moving.{Moving}
+use Rattle.std.specs.Prelude.{Err}
 
 -- what is told, and what is left in state and area
 pub stops : {scheme : List ℕ} {s s' : Moving} {area area' : List ℕ} {answer : ReceivedB} {number place : ℕ} (why : Refusal) → because why ≡ refused number place
-    → (answer ≡ Refused why) × (s' ≡ moving (stopped why (with_scheme [] s))) × (area' ≡ replicate s.size 0 ++ drop s.size area)
+    → (answer ≡ Err why) × (s' ≡ moving (stopped why (with_scheme [] s))) × (area' ≡ replicate s.size 0 ++ drop s.size area)
     → Stops number place (with_scheme scheme s) area answer (with_scheme scheme s') area'
 stops {scheme} why told e =
     record { why = why; told = told; tells = ap of_received_b e.0 ∙ told; state = ap (with_scheme scheme) e.1; left = e.2 }

@@ -1,34 +1,34 @@
 // One block of Payload B received: mended, and its bytes written.
-ghost use Rattle.std.specs.Prelude.{◌≡◌, ◌≤◌, length, take};
+ghost use Rattle.std.specs.Prelude.{◌≡◌, ◌≢◌, length, take};
 ghost use Rattle.packed.specs.Packed.{bits512};
 ghost use Rattle.payload_b.specs.CodedB.{block_bytes, block_bits};
+ghost use Rattle.payload_b.specs.ModesB.{number_of};
 ghost use Rattle.receiver_b.specs.Steps.{Finishes};
 
-use answers::Decoded;
 use payload::scrambler;
+use payload_b::mode::ModeB;
 
-// A block at its end: the bits mended, and the scrambler's register after; or no codeword is near enough.
+// A block that is done: the bits mended, and the scrambler's register after.
 #[derive(Clone, Copy)]
-pub enum Finished {
-    Mended { count: usize, register: u16 },
-    Hopeless,
+pub struct Finished {
+    pub count: usize,
+    pub register: u16,
 }
 
-// Mends a coded block, the first of the bits that are packed, and writes its bytes.
-pub(crate) fn finish(mode: u8, block: [u64; 8], register: u16, out: &mut [u8]) -> Finished
-    requires { (1 ≤ mode) × (mode ≤ 2) × (length out.old ≡ block_bytes mode) }
-    ensures { Finishes mode register (take (block_bits mode) (bits512 block)) out.old result out.new }
+// Mends a coded block, the first of the bits that are packed, and writes its bytes. None is written where no codeword is near enough.
+pub(crate) fn finish(
+    mode: ModeB,
+    block: [u64; 8],
+    register: u16,
+    out: &mut [u8],
+) -> Option<Finished>
+    requires { (number_of mode ≢ 0) × (length out.old ≡ block_bytes (number_of mode)) }
+    ensures { Finishes (number_of mode) register (take (block_bits (number_of mode)) (bits512 block)) out.old result out.new }
 {
-    let decoded = decoder::decode_packed(mode, block);
-    let told = decoded.told;
-    let answer = told.answer;
-    let Decoded::Accepted(count) = answer else {
-        return Finished::Hopeless;
+    let decoded = decoder::decode_packed(mode.code(), block);
+    let Ok(count) = decoded.told.answer else {
+        return None;
     };
-    let bits = decoded.bits;
-    let after = scrambler::write_bytes(register, &bits, out);
-    Finished::Mended {
-        count,
-        register: after,
-    }
+    let register = scrambler::write_bytes(register, &decoded.bits, out);
+    Some(Finished { count, register })
 }

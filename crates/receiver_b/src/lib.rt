@@ -14,9 +14,8 @@ mod receiver;
 mod step;
 mod stream;
 
-use answers::{ReceivedB, Refusal};
-use payload_b::plan::Verdict;
-use payload_b::stream::{Course, Found, Moving, State};
+use answers::{MendedB, Refusal};
+use payload_b::stream::{Course, Moving, State};
 use payload_b::{plan, stream as stream_b};
 use symbols::grid;
 use symbols::grid::{POINTS, SUB_CARRIERS};
@@ -29,42 +28,38 @@ pub fn receive_b(
     i: &[i16],
     q: &[i16],
     area: &mut [u8],
-) -> ReceivedB
+) -> Result<MendedB, Refusal>
     ensures { ReceivingB mode size scheme.now i.now q.now area.old result area.new }
 {
-    let verdict = plan::judged(mode, size, scheme);
-    match verdict {
-        Verdict::Fails(why) => ReceivedB::Refused(why),
-        Verdict::Passes(plan) => {
-            if !grid::room(SUB_CARRIERS * plan.symbols, i, q) {
-                return ReceivedB::Refused(Refusal::NoRoom);
-            }
-            if area.len() < size {
-                return ReceivedB::Refused(Refusal::NoRoom);
-            }
-            receiver::receive(mode, size, scheme, plan, i, q, area)
-        }
+    let checked = plan::checked(mode, size, scheme)?;
+    let plan = checked.plan;
+    if !grid::room(SUB_CARRIERS * plan.symbols, i, q) {
+        return Err(Refusal::NoRoom);
     }
+    if area.len() < size {
+        return Err(Refusal::NoRoom);
+    }
+    receiver::receive(size, checked.scheme, plan, i, q, area)
 }
 
 // Opens a stream for a frame of so many bytes: the state before its first OFDM symbol, or one that holds the refusal.
 pub fn open_b(mode: u8, size: usize, scheme: &[u8]) -> State
     ensures { OpeningB mode size scheme.now result }
 {
-    let verdict = plan::judged(mode, size, scheme);
-    match verdict {
-        Verdict::Fails(why) => {
-            let none = step::stopped(why, step::unseen(0, 0));
-            stream_b::with_scheme([0; POINTS], none)
+    let mut kept = [0; POINTS];
+    match plan::judged(mode, size, scheme) {
+        Err(why) => stream_b::with_scheme(kept, step::stopped(why, step::unseen(0, 0))),
+        Ok(_) => {
+            kept.copy_from_slice(scheme);
+            stream_b::with_scheme(kept, step::unseen(mode, size))
         }
-        Verdict::Passes(_) => stream_b::with_scheme(step::kept(scheme), step::unseen(mode, size)),
     }
 }
 
 // What a step answers, and the state after it.
 #[derive(Clone, Copy)]
 pub struct Stepped {
-    pub answer: ReceivedB,
+    pub answer: Result<MendedB, Refusal>,
     pub state: State,
 }
 
@@ -73,19 +68,17 @@ pub struct Stepped {
 pub fn step_b(state: State, i: &[i16], q: &[i16], area: &mut [u8]) -> Stepped
     ensures { SteppingB state i.now q.now area.old result.answer result.state area.new }
 {
-    let scheme = state.scheme;
-    let moved = step_lent(&scheme, stream_b::without_scheme(state), i, q, area);
-    let answer = moved.answer;
+    let moved = step_lent(&state.scheme, stream_b::without_scheme(state), i, q, area);
     Stepped {
-        answer,
-        state: stream_b::with_scheme(scheme, moved.moving),
+        answer: moved.answer,
+        state: stream_b::with_scheme(state.scheme, moved.moving),
     }
 }
 
 // The same where the scheme is lent: what a step answers, and what has moved of the state.
 #[derive(Clone, Copy)]
 pub struct Moved {
-    pub answer: ReceivedB,
+    pub answer: Result<MendedB, Refusal>,
     pub moving: Moving,
 }
 
@@ -93,15 +86,11 @@ pub struct Moved {
 pub fn step_lent(scheme: &[u8], from: Moving, i: &[i16], q: &[i16], area: &mut [u8]) -> Moved
     ensures { SteppingB (with_scheme scheme.now from) i.now q.now area.old result.answer (with_scheme scheme.now result.moving) area.new }
 {
-    let course = from.course;
-    match course {
+    match from.course {
         Course::Refused(why) => step::unchanged(why, from),
-        Course::Open => {
-            let found = stream_b::judged(scheme, from);
-            match found {
-                Found::Forged => step::unchanged(Refusal::Forged, from),
-                Found::Sound(stage) => step::next(scheme, from, stage, i, q, area),
-            }
-        }
+        Course::Open => match stream_b::judged(scheme, from) {
+            None => step::unchanged(Refusal::Forged, from),
+            Some(found) => step::next(found.scheme, from, found.stage, i, q, area),
+        },
     }
 }

@@ -4,14 +4,13 @@ use mathlib.Core.Path.{◌≡◌, refl, sym, ap, ap₂, subst, ◌∙◌}
 use mathlib.Core.Logic.{◌≢◌}
 use mathlib.Core.Bool.{Bool, cond}
 use mathlib.Core.List.{List, [], ◌∷◌, ◌++◌}
-use Prim.Native.Nat.{ℕ, zero, suc, ◌+◌, ◌-◌, ◌*◌, ◌%◌, ◌≤◌, ◌<◌, min}
+use Prim.Native.Nat.{ℕ, zero, suc, ◌+◌, ◌-◌, ◌*◌, ◌%◌, ◌≤◌}
 use native.Mathlib.Decide.{ℕ_discrete}
-use native.Mathlib.Nat.{mul-one, mul-add, mul-sub, div-one, mul-mod_right, lt_of_mul-lt-mul_left}
+use native.Mathlib.Nat.{mul-one, mul-add, mul-sub, div-one, mul-mod_right}
 use native.Mathlib.Omega.{arith}
 use borrow.Author.Tests.{ne_eqb}
 use lib.ListN.{length, take, drop, replicate, length-drop, length-replicate, take-append-drop}
 use lib.Seq.{take_at, length-take-le}
-use Rattle.answers.specs.declared.Written.{Written}
 use Rattle.bits.specs.Bytes.{bits_of}
 use Rattle.bits.proofs.Digits.{bits_take}
 use Rattle.bits.proofs.Octets.{length-bits_of}
@@ -22,15 +21,15 @@ use Rattle.packed.specs.Packed.{bits512, padded}
 use Rattle.packed.proofs.Walks.{length_512, bits_512}
 use Rattle.payload.specs.Scrambler.{scrambled_from}
 use Rattle.payload.proofs.Scrambling.{length_scrambled}
-use Rattle.payload.proofs.Wires.{one_more}
 use Rattle.payload_b.specs.CodedB.{block_bytes, block_bits, code_b, blocks_of, blocks_in, coded_from, bits_for}
 use Rattle.payload_b.proofs.Plans.{whole_blocks}
-use Rattle.payload_b.proofs.Blocks.{block_bytes_few, block_bytes_pos, block_bits_few, coded, block_uncoded, block_coded, block_of_long}
+use Rattle.payload_b.proofs.Blocks.{block_bytes_few, block_bits_few, coded, block_uncoded, block_coded, block_of_long}
 use Rattle.payload_b.proofs.Blockwise.{blocks_in_lem, coded_one}
 use Rattle.packed.proofs.Amid.{zeros}
 use Rattle.encoder.specs.Promise.{EncodingPacked, information_by}
 use Rattle.sender_b.specs.Steps.{Piece, coded_piece}
 use Rattle.sender_b.proofs.Zeros.{drop-zeros}
+use Rattle.answers.specs.Answers.{Written}
 
 -- ---- numbers of bytes that are whole blocks
 
@@ -46,32 +45,6 @@ module _ (mode : ℕ) where
       let e : m - n ≡ block_bytes mode * (blocks_in mode m - blocks_in mode n)
       = ap₂ ◌-◌ (whole_blocks mode m em) (whole_blocks mode n en) ∙ sym (mul-sub (block_bytes mode) (blocks_in mode m) (blocks_in mode n)) in
       ap (λ (k : ℕ). k % block_bytes mode) e ∙ mul-mod_right (block_bytes mode) (blocks_in mode m - blocks_in mode n)
-
--- a piece of a coded mode, and of the uncoded one
-module _ (mode left n : ℕ) (some : 0 < left) (whole : left % block_bytes mode ≡ 0) where
-  block_within : block_bytes mode ≤ left
-  block_within =
-      let e = whole_blocks mode left whole in
-      let b : 0 < blocks_in mode left = lt_of_mul-lt-mul_left (block_bytes mode) (omega (arith, e)) in
-      omega (arith, e, one_more (block_bytes mode) 0 (blocks_in mode left) b)
-
-  pub piece_coded : n ≡ block_bytes mode → Piece mode left n
-  piece_coded e = record {
-    some = omega (arith, block_bytes_pos mode);
-    few = omega (arith, block_bytes_few mode);
-    within = omega (arith, block_within);
-    whole = ap (λ (k : ℕ). k % block_bytes mode) (e ∙ sym (mul-one (block_bytes mode))) ∙ mul-mod_right (block_bytes mode) 1;
-    one = λ _. e;
-  }
-
-  pub piece_uncoded : mode ≡ 0 → n ≡ min left 64 → Piece mode left n
-  piece_uncoded z e = record {
-    some = omega arith;
-    few = omega arith;
-    within = omega arith;
-    whole = rw z (omega arith);
-    one = λ not. absurd (not z);
-  }
 
 -- ---- pieces
 
@@ -130,9 +103,6 @@ few_bits {mode} {left} {n} p = by (ℕ_discrete mode 0)
 -- ---- packed
 
 module _ (mode : ℕ) (words : List ℕ) where
-  pub packed_uncoded : mode ≡ 0 → bits512 words ≡ coded_piece mode (bits512 words)
-  packed_uncoded z = rw z refl
-
   -- the codeword, with zeros behind
   pub packed_coded : mode ≤ 2 → mode ≢ 0 → (answer : Written) (after : List ℕ) → EncodingPacked mode words answer after
       → bits512 after ≡ coded_piece mode (bits512 words)

@@ -11,7 +11,6 @@ use lib.ListN.{length, take, drop}
 use Rattle.packed.specs.Packed.{bits_from}
 use Rattle.points.specs.declared.Point.{Point}
 use Rattle.points.specs.Constellations.{level_i, level_q}
-use Rattle.points.specs.Lent.{our_cells}
 use Rattle.payload.proofs.Wires.{one_more}
 use Rattle.symbols.specs.Grids.{spread}
 use Rattle.symbols.specs.Schemes.{sum_of}
@@ -107,7 +106,7 @@ module _ {mode : ℕ} {frame scheme : List ℕ} {plan : Plan} {is₀ qs₀ : Lis
             (one_more (sum_of scheme) s (symbols_for mode (length frame) scheme) (omega (arith, symbols_are)))
 
         -- and its sub-carriers are written
-        module _ {cells : List ℕ} (lent : cells ≡ our_cells) where
+        module _ where
           long_i : length (symbol_at s is) ≡ 256
           long_i = mid_len (256 * s) (256 * s + 256) is room_i ∙ omega arith
 
@@ -115,15 +114,15 @@ module _ {mode : ℕ} {frame scheme : List ℕ} {plan : Plan} {is₀ qs₀ : Lis
           long_q = mid_len (256 * s) (256 * s + 256) qs room_q ∙ omega arith
 
           sub_carriers : (level : Point → ℤ) {part : List ℤ} (levels : List ℤ) → length levels ≡ 256
-              → part ≡ symbol_written level cells scheme (bits_from 41 0 full.bits) (symbol_at s is) (symbol_at s qs) levels
+              → part ≡ symbol_written level scheme (bits_from 41 0 full.bits) (symbol_at s is) (symbol_at s qs) levels
               → part ≡ spread_of level scheme (drop sent fed)
           sub_carriers level levels l e =
-              e ∙ symbol_ours p.sendable.entries (symbol_at s is) (symbol_at s qs) long_i long_q level lent (bits_from 41 0 full.bits) levels l
+              e ∙ symbol_ours p.sendable.entries (symbol_at s is) (symbol_at s qs) long_i long_q level (bits_from 41 0 full.bits) levels l
               ∙ ap (λ (ps : List Point). spread (map level ps)) (mapped_same scheme (bits_from 41 0 full.bits) (drop sent fed) bits_are)
 
           pub underway_more : {is' qs' : List ℤ}
-              → is' ≡ symbol_written level_i cells scheme (bits_from 41 0 full.bits) (symbol_at s is) (symbol_at s qs) (symbol_at s is)
-              → qs' ≡ symbol_written level_q cells scheme (bits_from 41 0 full.bits) (symbol_at s is) (symbol_at s qs) (symbol_at s qs)
+              → is' ≡ symbol_written level_i scheme (bits_from 41 0 full.bits) (symbol_at s is) (symbol_at s qs) (symbol_at s is)
+              → qs' ≡ symbol_written level_q scheme (bits_from 41 0 full.bits) (symbol_at s is) (symbol_at s qs) (symbol_at s qs)
               → {run' : Run} → Gone plan.sum full run'
               → Underway mode frame scheme is₀ qs₀ (s + 1) run' (put_mid (256 * s) (256 * s + 256 - 256 * s) is is')
               (put_mid (256 * s) (256 * s + 256 - 256 * s) qs qs')

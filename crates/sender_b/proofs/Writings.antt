@@ -1,4 +1,4 @@
--- Where an OFDM symbol can be written, and what is written by our cells.
+-- Where an OFDM symbol can be written, and what is written.
 -- Assumes nothing.
 use mathlib.Core.Path.{◌≡◌, refl}
 use mathlib.Core.Bool.{true}
@@ -9,11 +9,9 @@ use borrow.Author.Tests.{eq-eqb}
 use lib.IntN.{ℤ}
 use lib.ListN.{length, drop_of_length-le}
 use Rattle.points.specs.declared.Point.{Point}
-use Rattle.points.specs.Lent.{our_cells}
 use Rattle.symbols.proofs.Rooms.{room_enough}
 use Rattle.symbols.specs.Schemes.{Scheme}
 use Rattle.symbols.specs.ByScheme.{readable, symbol_written}
-use Rattle.symbols.proofs.Writings.{mapped_ours}
 use Rattle.sender_b.specs.Steps.{spread_of}
 
 module _ {scheme : List ℕ} (good : Scheme scheme) (is qs : List ℤ) (li : length is ≡ 256) (lq : length qs ≡ 256) where
@@ -21,8 +19,8 @@ module _ {scheme : List ℕ} (good : Scheme scheme) (is qs : List ℤ) (li : len
   can_write =
       rw (eq-eqb (length scheme) 210 good.long, good.entries, ← room_enough (256 * 1) is qs (omega arith) (omega arith)) refl
 
-  -- it is written by our cells
-  pub symbol_ours : (level : Point → ℤ) {cells : List ℕ} → cells ≡ our_cells → (bits : List ℕ) (levels : List ℤ) → length levels ≡ 256
-      → symbol_written level cells scheme bits is qs levels ≡ spread_of level scheme bits
-  symbol_ours level lent bits levels l =
-      rw (can_write, lent, mapped_ours scheme bits, drop_of_length-le levels {i = 256} (omega arith)) (append-nil (spread_of level scheme bits))
+  -- its bits are
+  pub symbol_ours : (level : Point → ℤ) (bits : List ℕ) (levels : List ℤ) → length levels ≡ 256
+      → symbol_written level scheme bits is qs levels ≡ spread_of level scheme bits
+  symbol_ours level bits levels l =
+      rw (can_write, drop_of_length-le levels {i = 256} (omega arith)) (append-nil (spread_of level scheme bits))

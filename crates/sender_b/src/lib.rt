@@ -7,26 +7,27 @@ ghost use Rattle.payload_b.specs.PromiseB.{SendingB};
 
 mod sender;
 
-use answers::{Refusal, Written};
+use answers::Refusal;
 use payload_b::plan;
-use payload_b::plan::Verdict;
 use symbols::grid;
 use symbols::grid::SUB_CARRIERS;
 
 // Sends a frame by a scheme of bits per point: mode 0 is uncoded, 1 uses (508,472), 2 uses (504,432). Writes 256 elements of I and of Q for each
 // OFDM symbol needed.
-pub fn send_b(mode: u8, frame: &[u8], scheme: &[u8], i: &mut [i16], q: &mut [i16]) -> Written
+pub fn send_b(
+    mode: u8,
+    frame: &[u8],
+    scheme: &[u8],
+    i: &mut [i16],
+    q: &mut [i16],
+) -> Result<(), Refusal>
     ensures { SendingB mode frame.now scheme.now i.old q.old result i.new q.new }
 {
-    let verdict = plan::judged(mode, frame.len(), scheme);
-    match verdict {
-        Verdict::Fails(why) => Written::Refused(why),
-        Verdict::Passes(plan) => {
-            if !grid::room(SUB_CARRIERS * plan.symbols, i, q) {
-                return Written::Refused(Refusal::NoRoom);
-            }
-            sender::send(mode, frame, scheme, plan, i, q);
-            Written::Accepted
-        }
+    let checked = plan::checked(mode, frame.len(), scheme)?;
+    let plan = checked.plan;
+    if !grid::room(SUB_CARRIERS * plan.symbols, i, q) {
+        return Err(Refusal::NoRoom);
     }
+    sender::send(frame, checked.scheme, plan, i, q);
+    Ok(())
 }

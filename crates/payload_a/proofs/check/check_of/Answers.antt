@@ -2,18 +2,18 @@
 -- Assumes nothing.
 use mathlib.Core.Path.{◌≡◌, refl, sym, ap, ◌∙◌}
 use mathlib.Core.List.{List, ◌++◌}
-use Prim.Native.Nat.{ℕ, ◌+◌, ◌/◌, ◌%◌, ◌≤◌, ◌<◌}
+use Prim.Native.Nat.{ℕ, ◌+◌, ◌*◌, ◌/◌, ◌%◌, ◌≤◌, ◌<◌}
 use native.Mathlib.Omega.{arith}
 use native.Mathlib.Numerals.{add-one}
 use lib.Bits.{bit_xor}
 use lib.ListN.{length, get_or, drop, drop_of_length-le}
 use lib.Seq.{drop-cons}
 use Rattle.bits.specs.Words.{lowest, digits}
-use Rattle.bits.specs.Remainders.{reduced, step, remainder_from, remainder}
+use Rattle.bits.specs.Remainders.{step, remainder_from}
+use Rattle.bits.proofs.Chunks.{lowest-drop, eight_read}
 use Rattle.bits.proofs.Digits.{length-lowest, lowest_at}
 use Rattle.bits.proofs.Remainders.{from_append}
 use Rattle.payload_a.specs.Check.{check_polynomial, all_ones, check_of}
-use Rattle.payload_a.proofs.Halves.{half}
 use Rattle.payload_a.proofs.check.check_of.Goals as goal
 
 -- a turn: y is the register after the bit at i
@@ -24,39 +24,47 @@ turn x y m i h e =
     rw (e ∙ ap (step 32 check_polynomial x) (sym (lowest_at m i)), add-one, drop-cons (lowest m) i 0 (rw (length-lowest m) h))
 
 -- and after the eight bits from i on, the digits of b
-turn8 : (x y b : ℕ) (m : List ℕ) (i : ℕ) → drop i m ≡ digits 8 b ++ drop (i + 8) m → y ≡ remainder_from 32 check_polynomial x (digits 8 b)
-    → remainder_from 32 check_polynomial y (drop (i + 8) m) ≡ remainder_from 32 check_polynomial x (drop i m)
-turn8 x y b m i d e = rw (e, d) (sym (from_append 32 check_polynomial x (digits 8 b) (drop (i + 8) m)))
+turn8 : (x y b : ℕ) (m : List ℕ) (i : ℕ) → drop (8 * i) m ≡ digits 8 b ++ drop (8 * i + 8) m → y ≡ remainder_from 32 check_polynomial x (digits 8 b)
+    → remainder_from 32 check_polynomial y (drop (8 * (i + 1)) m) ≡ remainder_from 32 check_polynomial x (drop (8 * i) m)
+turn8 x y b m i d e =
+    let next : 8 * (i + 1) ≡ 8 * i + 8 = omega arith in
+    rw (next, e, d) (sym (from_append 32 check_polynomial x (digits 8 b) (drop (8 * i + 8) m)))
+
+-- the rest, behind the last eight
+behind : (x i n : ℕ) (m rest : List ℕ) → rest ≡ drop n m → 8 * i ≡ n
+    → remainder_from 32 check_polynomial x (drop (8 * i) (lowest m)) ≡ remainder_from 32 check_polynomial x (lowest rest)
+behind x i n m rest e at = rw (e, at, lowest-drop n m) refl
 
 done : (x : ℕ) (m : List ℕ) (i : ℕ) → length m ≤ i → x ≡ remainder_from 32 check_polynomial x (drop i m)
 unfolding remainder_from
 done x m i h = rw (drop_of_length-le m h)
 
-pub loop-i-init : goal.loop-i-init
-unfolding digits reduced step remainder_from remainder
-loop-i-init c = (half 4 _ tt, half 0 _ tt, (omega arith, refl))
+pub loop-word-init : goal.loop-word-init
+loop-word-init c = refl
 
-pub loop-i-preserved : goal.loop-i-preserved
-loop-i-preserved c =
-    let place = c.place-at in
-    let i = place.result in
-    let l = c.loop-i in
+pub loop-word-preserved : goal.loop-word-preserved
+loop-word-preserved c =
+    let l = c.loop-word in
     let m = c.args.message.now in
-    let taken = c.step8-register.ensures _ i place.ensures.0 (l.invariant.0.at (i / 16) (omega arith)) (l.invariant.1.at (i % 16) (omega arith)) in
-    (l.invariant.0, l.invariant.1, (omega arith, turn8 l.register _ _ (lowest m) l.i c.eight.ensures.1 taken ∙ l.invariant.2.1))
+    let chunks = c.as_chunks.ensures in
+    let here = eight_read m c.as_chunks.result.0.now chunks.front l.word-index c.eight.result (omega (arith, chunks.front_len)) c.eight.ensures in
+    turn8 l.register _ _ (lowest m) l.word-index here c.take_eight-register.ensures ∙ l.invariant
 
-pub loop-i-2-init : goal.loop-i-2-init
-loop-i-2-init c = c.loop-i.invariant.2
-
-pub loop-i-2-preserved : goal.loop-i-2-preserved
-loop-i-2-preserved c =
-    let l = c.loop-i-2 in
+pub loop-element-init : goal.loop-element-init
+loop-element-init c =
+    let l = c.loop-word in
+    let chunks = c.as_chunks.ensures in
     let m = c.args.message.now in
-    (omega arith, turn l.register _ m l.i (omega arith) c.take_in-register.ensures ∙ l.invariant.1)
+    sym (behind l.register l.word-index (length m / 8 * 8) m _ chunks.back (omega (arith, chunks.front_len))) ∙ l.invariant
+
+pub loop-element-preserved : goal.loop-element-preserved
+loop-element-preserved c =
+    let l = c.loop-element in
+    turn l.register _ c.as_chunks.result.1.now l.element-index (omega arith) c.take_in-register.ensures ∙ l.invariant
 
 pub returns : goal.returns
 unfolding check_of
 returns c =
-    let l = c.loop-i-2 in
-    let m = c.args.message.now in
-    ap (λ (x : ℕ). bit_xor x all_ones) (done l.register (lowest m) l.i (omega (arith, length-lowest m)) ∙ l.invariant.1)
+    let l = c.loop-element in
+    let rest = c.as_chunks.result.1.now in
+    ap (λ (x : ℕ). bit_xor x all_ones) (done l.register (lowest rest) l.element-index (omega (arith, length-lowest rest)) ∙ l.invariant)

@@ -44,20 +44,20 @@ is_check-requires c =
     let long = part_long n (length c.args.bits.now - n) c.scramble.new.bits (omega (arith, held_long _ held)) in
     (part_bits _ held c.requires.0 n (length c.args.bits.now - n), long ∙ omega arith)
 
-pub returns-then-is_check : goal.returns-then-is_check
-returns-then-is_check c =
+pub returns : goal.returns
+returns c =
     let n = length c.args.area.now * 8 in
     let held = c.scramble.ensures.0 in
     let put = c.put_bytes in
     let parts = parted _ held c.requires.0 n c.check_of-check.result c.check_of-check.ensures in
     let long = part_long 0 (n - 0) c.scramble.new.bits (omega (arith, held_long _ held)) in
     let there = bytes_there (take (n - 0) c.scramble.new.bits) c.args.area.now put.ensures (part_bits _ held c.requires.0 0 (n - 0)) (omega (arith, long)) in
-    (omega arith, bytes_from put.new.out (λ i. search rules), right_check parts (c.is_check.ensures.0 c.if-is_check.true) put.new.out there)
+    (omega arith, bytes_from put.new.out (λ i. search rules), right_check parts (c.is_check.ensures.0 c.if-not-is_check.false) put.new.out there)
 
-pub returns : goal.returns
-returns c =
+pub returns-then-not-is_check : goal.returns-then-not-is_check
+returns-then-not-is_check c =
     let n = length c.args.area.now * 8 in
     let held = c.scramble.ensures.0 in
     let parts = parted _ held c.requires.0 n c.check_of-check.result c.check_of-check.ensures in
     let long = part_long 0 (n - 0) c.scramble.new.bits (omega (arith, held_long _ held)) in
-    (refl, λ frame same. wrong_check parts (c.is_check.ensures.1 c.if-is_check.false) frame (length-bits_of frame ∙ omega (arith, long)))
+    (refl, refl, λ frame same. wrong_check parts (c.is_check.ensures.1 c.if-not-is_check.true) frame (length-bits_of frame ∙ omega (arith, long)))

@@ -6,9 +6,9 @@ use Rattle.receiver_a.proofs.receiver.legal.Goals as goal
 pub read-requires : goal.read-requires
 read-requires c =
     let h = c.requires in
-    (h.0, burst_pair c.args.i.now c.args.q.now h.1 h.2 h.4 c.read-first.ensures c.read-second.ensures, h.3)
+    (burst_pair c.args.i.now c.args.q.now h.0 h.1 h.3 c.read-first.ensures c.read-second.ensures, h.2)
 
 pub returns : goal.returns
 returns c =
     let h = c.requires in
-    rw (burst_read c.args.i.now c.args.q.now h.1 h.2 h.4 c.read-first.ensures c.read-second.ensures) at c.read.ensures
+    rw (burst_read c.args.i.now c.args.q.now h.0 h.1 h.3 c.read-first.ensures c.read-second.ensures) at c.read.ensures

@@ -7,4 +7,4 @@ use Rattle.receiver_a.proofs.receiver.receive.Goals as goal
 pub legal-requires : goal.legal-requires
 legal-requires c =
     let h = c.requires in
-    (h.0, h.1, h.2, h.3, none_stray c.args.i.now c.args.q.now h.1 h.2 (sym c.in-Clear.is ∙ c.first_fault-fault.ensures))
+    (h.0, h.1, h.2, none_stray c.args.i.now c.args.q.now h.0 h.1 (sym c.in-Ok.is ∙ c.first_fault.ensures))

@@ -9,6 +9,6 @@ use Rattle.receiver_a.proofs.rows.differing.Goals as goal
 pub returns : goal.returns
 returns c = (
   ap₂ ◌+◌ (ap₂ ◌+◌ c.places_apart.ensures.0 c.places_apart-2.ensures.0) c.places_apart-3.ensures.0
-      ∙ sym (differ-protected_in c.args.symbol.now c.requires),
+      ∙ sym (differ-protected_in c.args.symbol.now c.told-symbol),
   omega arith,
 )

@@ -1,40 +1,43 @@
--- `receiver_a::rows::places_apart` meets its contract: the places counted so far, and those left.
+-- `receiver_a::rows::places_apart` meets its contract: the pairs of elements that differ are counted.
 -- Assumes nothing.
-use mathlib.Core.Path.{◌≡◌, ap₂, ◌∙◌}
-use mathlib.Core.List.{List}
-use Prim.Native.Nat.{ℕ, ◌+◌, ◌≤◌, ◌<◌}
-use native.Mathlib.Numerals.{add-one}
+use mathlib.Core.Path.{◌≡◌, refl, ◌∙◌}
+use mathlib.Core.Bool.{Bool, true, false, cond, not}
+use mathlib.Core.List.{List, [], ◌∷◌}
+use Prim.Native.Nat.{ℕ, ◌+◌}
 use native.Mathlib.Omega.{arith}
-use lib.ListN.{length, get_or, drop, drop_of_length-le}
-use lib.Seq.{drop-cons}
+use borrow.Author.Rules.{rules}
+use borrow.Author.Tests.{tests}
+use lib.Dec.{eqb}
+use lib.ListN.{length}
+use Rattle.std.specs.List.{zip, filter}
+use Rattle.std.proofs.lemmas.Iterator.{YieldsList-from_slice, YieldsList-from_zip}
+use Rattle.std.proofs.lemmas.Iterator.Consumers.{YieldsList-at, YieldsList-from_filter, count_from_yields_List}
 use Rattle.bits.specs.Words.{differ}
-use Rattle.bits.proofs.Distances.{apart, apart_same, apart_other, differ-cons, differ_self}
+use Rattle.bits.proofs.Distances.{differ-le}
 use Rattle.receiver_a.proofs.rows.places_apart.Goals as goal
-use Rattle.receiver_a.proofs.rows.places_apart.Goals.{then-field-i, else-field-i}
 
--- a turn: m counts the place i too
-turn : (f r : List ℕ) (n m i : ℕ) → i < length f → i < length r → m ≡ n + apart (get_or f i 0) (get_or r i 0)
-    → m + differ (drop (i + 1) f) (drop (i + 1) r) ≡ n + differ (drop i f) (drop i r)
-turn f r n m i hf hr e =
-    let d = ap₂ differ (drop-cons f i 0 hf) (drop-cons r i 0 hr) ∙ differ-cons (get_or f i 0) (get_or r i 0) _ _ in
-    rw add-one (omega arith)
+-- where a list of pairs differs
+abbrev differs : ℕ × ℕ → Bool
+differs p = not (eqb p.0 p.1)
 
-done : (f r : List ℕ) (n i : ℕ) → length f ≤ i → length r ≤ i → n ≡ n + differ (drop i f) (drop i r)
-done f r n i hf hr = rw (drop_of_length-le f hf, drop_of_length-le r hr, differ_self) (omega arith)
+one_more : (b : Bool) (p : ℕ × ℕ) (ps : List (ℕ × ℕ)) (n : ℕ) → length ps ≡ n → length (cond (not b) (p ∷ ps) ps) ≡ cond b 0 1 + n
+one_more true p ps n e = omega (arith, e)
+one_more false p ps n e = omega (arith, e)
 
-pub loop-i-preserved : goal.loop-i-preserved
-loop-i-preserved c =
-    let l = c.loop-i in
-    let a = c.args in
-    let f = get_or a.field.now l.i 0 in
-    let r = get_or a.received.now l.i 0 in
-    let e : c.if-field-i.n ≡ l.n + apart f r =
-    elim c.if-field-i.branch [ then-field-i w ↦ omega (arith, apart_other f r w.if-field-i.true) | else-field-i w ↦ omega (arith, apart_same f r w.if-field-i.false) ] in
-    let m : c.if-field-i.n ≤ l.i + 1 = elim c.if-field-i.branch [ then-field-i w ↦ omega arith | else-field-i w ↦ omega arith ] in
-    (omega arith, m, turn a.field.now a.received.now l.n _ l.i (omega arith) (omega arith) e ∙ l.invariant.2)
+pairs_apart : (v w : List ℕ) → length v ≡ length w → length (filter differs (zip v w)) ≡ differ v w
+unfolding differ
+pairs_apart [] [] e = refl
+pairs_apart [] (y ∷ w) e = absurd (omega arith)
+pairs_apart (x ∷ v) [] e = absurd (omega arith)
+pairs_apart (x ∷ v) (y ∷ w) e = one_more (eqb x y) (x, y) (filter differs (zip v w)) (differ v w) (pairs_apart v w (omega arith))
 
 pub returns : goal.returns
 returns c =
-    let l = c.loop-i in
-    let a = c.args in
-    (done a.field.now a.received.now l.n l.i (omega arith) (omega arith) ∙ l.invariant.2, omega arith)
+    let field = c.args.field.now in
+    let received = c.args.received.now in
+    let counted : c.count.result ≡ length (filter differs (zip field received)) =
+    count_from_yields_List c.filter.result _ c.count.ensures.ran
+    (YieldsList-from_filter _ differs (YieldsList-at c.filter.ensures.source (YieldsList-from_zip (YieldsList-at c.zip.ensures.first (YieldsList-from_slice field cc))
+    (YieldsList-from_slice received c.zip.ensures.second.0))) c.filter.ensures.closure (λ x r q k. search (rules, tests))) in
+    let e = counted ∙ pairs_apart field received c.requires in
+    (e, rw e (differ-le field received (length field) (omega arith) (omega arith)))

@@ -20,21 +20,21 @@ many h = ap (λ (t : Stage). t.plan.symbols) h.far
 
 pub returns-then-stage-s : goal.returns-then-stage-s
 returns-then-stage-s c =
-    let s = with_scheme c.args.scheme.now c.args.s in
+    let s = with_scheme c.args.scheme.entries.now c.args.s in
     let e = c.unchanged.ensures in
     let all = le-ltb s.seen (symbols_for s.mode s.size s.scheme) (omega (arith, many c.requires, c.if-stage-s.true)) in
     rw (kept_sound s c.requires.kept, all) (ap of_received_b e.0, ap (with_scheme s.scheme) e.1, refl)
 
 pub returns-then-not-room : goal.returns-then-not-room
 returns-then-not-room c =
-    let s = with_scheme c.args.scheme.now c.args.s in
+    let s = with_scheme c.args.scheme.entries.now c.args.s in
     let e = c.unchanged-then-not-room.ensures in
     let more = lt-ltb s.seen (symbols_for s.mode s.size s.scheme) (omega (arith, many c.requires, c.if-stage-s.false)) in
     rw (kept_sound s c.requires.kept, more, ← c.room.ensures, c.if-not-room.true) (ap of_received_b e.0, ap (with_scheme s.scheme) e.1, refl)
 
 pub returns-then-area-s : goal.returns-then-area-s
 returns-then-area-s c =
-    let s = with_scheme c.args.scheme.now c.args.s in
+    let s = with_scheme c.args.scheme.entries.now c.args.s in
     let e = c.unchanged-then-area-s.ensures in
     let more = lt-ltb s.seen (symbols_for s.mode s.size s.scheme) (omega (arith, many c.requires, c.if-stage-s.false)) in
     let short = lt-leb s.size (length c.args.area.now) c.if-area-s.true in
@@ -53,7 +53,7 @@ look-requires c =
 
 pub returns : goal.returns
 returns c =
-    let s = with_scheme c.args.scheme.now c.args.s in
+    let s = with_scheme c.args.scheme.entries.now c.args.s in
     let more = lt-ltb s.seen (symbols_for s.mode s.size s.scheme) (omega (arith, many c.requires, c.if-stage-s.false)) in
     let long = le-leb s.size (length c.args.area.now) c.if-area-s.false in
     rw (kept_sound s c.requires.kept, more, ← c.room.ensures, c.if-not-room.false, long) c.look.ensures

@@ -12,7 +12,7 @@ use Rattle.receiver_b.proofs.stream.take_bytes.Goals as goal
 pub returns : goal.returns
 returns c =
     let write = c.write_bytes-register in
-    let m = c.least-m in
+    let m = c.min-m in
     let a = c.args in
     let at = a.from.done in
     let out = write.new.out in
@@ -21,5 +21,5 @@ returns c =
     let long : length (mid_of at (end - at) a.area.now) ≡ m.result = omega (arith, mid_len at end a.area.now fits) in
     let put = put_mid at (end - at) a.area.now out in
     rw (write.ensures.2, long)
-    (takes_bytes c.requires a.run.now m.ensures.0 out (write.ensures.0 ∙ long) (rw long at write.ensures.1)
+    (takes_bytes c.requires a.run.now m.ensures out (write.ensures.0 ∙ long) (rw long at write.ensures.1)
     (bytes_from put (λ i. omega (arith, c.type_inv.area i))))

@@ -1,16 +1,12 @@
 -- `receiver_b::stream::take_symbols` meets its contract: the first s OFDM symbols are taken in.
 -- Assumes nothing.
-use Prim.Native.Nat.{◌-◌, ◌≤◌}
 use Rattle.packed.specs.Packed.{bits512}
-use Rattle.receiver_b.specs.Steps.{TakesIn}
+use Rattle.payload_b.specs.ModesB.{number_of}
+use Rattle.receiver_b.specs.Steps.{Enters}
 use Rattle.receiver_b.proofs.Receiving.{bits_read}
 use Rattle.receiver_b.proofs.stream.take_symbols.Given as goal
 
 abbrev pub invariant-loop-s : goal.invariant-loop-s
 invariant-loop-s l =
     let from = l.initial.state in
-    (l.s ≤ l.plan.symbols)
-    × TakesIn l.mode l.plan.blocks (bits_read l.quadrants l.scheme l.i l.q l.s) l.initial.area (bits512 from.block) from.tally l.area (bits512 l.state.block) l.state.tally
-
-abbrev pub decreases-loop-s : goal.decreases-loop-s
-decreases-loop-s l = l.plan.symbols - l.s
+    Enters (number_of l.plan.mode) l.plan.blocks (bits_read l.scheme.entries.now l.i l.q l.s) l.initial.area (bits512 from.block) from.tally l.area (bits512 l.state.block) l.state.tally

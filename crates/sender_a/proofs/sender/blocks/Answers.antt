@@ -4,12 +4,10 @@ use Rattle.sender_a.proofs.Splitting.{first_part, second_part, second_whole}
 use Rattle.sender_a.proofs.sender.blocks.Goals as goal
 
 pub block-requires : goal.block-requires
-block-requires c =
-    first_part 248 c.args.information.now c.requires.1 c.requires.0
+block-requires c = first_part 248 c.args.information.now c.told-information c.requires
 
 pub block-requires-2 : goal.block-requires-2
-block-requires-2 c =
-    second_part 248 c.args.information.now c.requires.1 c.requires.0
+block-requires-2 c = second_part 248 c.args.information.now c.told-information c.requires
 
 pub returns : goal.returns
-returns c = cc (second_whole 248 _ c.requires.1)
+returns c = cc (second_whole 248 _ c.told-information)

@@ -1,14 +1,11 @@
 -- `sender_a::sender::coded` meets its contract: the two blocks stand one behind the other.
 -- Assumes nothing.
-use native.Mathlib.Omega.{arith}
 use Rattle.payload_a.specs.CodedA.{blocks_a}
-use Rattle.payload_a.proofs.Coding.{length-information, bits_information}
+use Rattle.payload_a.proofs.Coding.{bits_information}
 use Rattle.sender_a.proofs.sender.coded.Goals as goal
 
 pub blocks-requires : goal.blocks-requires
-blocks-requires c =
-    let frame = c.args.frame.now in
-    rw c.put_information.ensures (bits_information frame, omega (arith, length-information frame))
+blocks-requires c = rw c.put_information.ensures (bits_information c.args.frame.now)
 
 pub returns : goal.returns
 unfolding blocks_a

@@ -6,6 +6,6 @@ use Rattle.sender_a.proofs.sender.put_points.Goals as goal
 pub returns : goal.returns
 returns c =
     let a = c.args in
-    both_written a.bits.now c.requires.0 c.requires.1 a.i.now a.q.now c.requires.2 c.requires.3
+    both_written a.bits.now c.requires.0 c.told-bits a.i.now a.q.now c.requires.1 c.requires.2
     (rw c.symbol.ensures at c.write-last.ensures)
     (rw c.symbol-2.ensures at c.write.ensures)

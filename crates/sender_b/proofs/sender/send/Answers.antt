@@ -15,7 +15,7 @@ fill-run-requires c =
 pub loop-s-preserved : goal.loop-s-preserved
 loop-s-preserved c =
     let write = c.write.ensures in
-    underway_more c.requires c.loop-s.invariant c.loop-s-test.true c.fill-run.ensures c.cells-cells.ensures write.0 write.1 c.behind-run.ensures
+    underway_more c.requires c.loop-s.invariant (omega arith) c.fill-run.ensures write.0 write.1 c.behind-run.ensures
 
 pub returns : goal.returns
-returns c = underway_all c.requires c.loop-s.invariant c.loop-s-test.false
+returns c = underway_all c.requires c.loop-s.invariant (omega arith)
