@@ -2,7 +2,7 @@
 // came of it. What it writes for which frame is the promise of `report`; here is reading and writing alone.
 #![tactic(auto)]
 
-ghost use Rattle.std.specs.Prelude.{◌≡◌, length, IfOk, IsTrue};
+ghost use Rattle.std.specs.Prelude.{IfOk, IsTrue};
 ghost use Rattle.std.specs.Io.KnownBytes.{IsAtEnd};
 ghost use Rattle.streams.specs.Streams.{LeavesRest};
 
@@ -11,13 +11,6 @@ use std::io::Read;
 
 // One byte more than the longest frame has: input of so many bytes is too long, whatever follows.
 const MOST: usize = 95;
-
-// Room for it.
-fn room() -> [u8; MOST]
-    ensures { 95 ≡ length result }
-{
-    [0; MOST]
-}
 
 // Reads what follows to its end, so that whoever writes it is not cut off, and answers whether it came there. A proved loop has to end, and nothing says that
 // the input does: the turns are as many as no run uses up.
@@ -36,15 +29,13 @@ fn skip_rest<R: Read>(from: &mut R) -> io::Result<bool>
 
 fn main(rt: HostRuntime) -> io::Result<()> {
     let mut from = rt.reader();
-    let mut input = room();
+    let mut input = [0u8; MOST];
     let n = streams::read_full(&mut from, &mut input)?;
     if n == MOST {
         skip_rest(&mut from)?;
     }
     let text = report::report(&input[..n]);
-    let bytes = text.bytes;
-    let count = text.count;
-    streams::write_whole(&mut io::writer(&rt), &bytes[..count])
+    streams::write_whole(&mut io::writer(&rt), &text.bytes[..text.count])
 }
 
 #[cfg(test)]

@@ -2,7 +2,6 @@
 // them say which bytes they hold.
 #![tactic(auto)]
 
-ghost use Rattle.std.specs.Prelude.{◌≡◌, length};
 ghost use Rattle.streams.specs.Streams.{LeavesRest, Grows};
 
 use std::env::FillError;
@@ -14,13 +13,6 @@ use std::{io, str};
 // What the bench program reads of its input, at most.
 const MOST: usize = 95;
 
-// Room for it.
-fn room() -> [u8; MOST]
-    ensures { 95 ≡ length result }
-{
-    [0; MOST]
-}
-
 // The most bytes of an argument: as many as a path has.
 const PATH: usize = 4096;
 
@@ -29,12 +21,10 @@ fn show<R: Read, W: Write>(from: &mut R, to: &mut W) -> io::Result<()>
     ensures rest { LeavesRest (R.remaining from.old) (R.remaining from.new) }
     ensures grows { Grows (W.contents to.old) (W.contents to.new) }
 {
-    let mut input = room();
+    let mut input = [0u8; MOST];
     let n = streams::read_full(from, &mut input)?;
     let text = report::report(&input[..n]);
-    let bytes = text.bytes;
-    let count = text.count;
-    streams::write_whole(to, &bytes[..count])
+    streams::write_whole(to, &text.bytes[..text.count])
 }
 
 // Writes the report on the file that an argument names. One that cannot be opened is named on standard error, and the next one follows.

@@ -11,17 +11,11 @@ use borrow.Author.Tests.{ltb-true}
 use lib.Dec.{eqb, leb, ltb}
 use lib.IntN.{ℤ}
 use lib.ListN.{length}
-use Rattle.answers.specs.Answers.{accepted, refused, of_written, of_decoded, of_received_a, of_received_b}
+use Rattle.answers.specs.Answers.{accepted, refused, of_written, of_decoded, of_received_a, of_received_b, ReceivedA, ReceivedB, Written, counted_a, counted_b}
 use Rattle.answers.specs.Checks.{Checked, fails, passes}
 use Rattle.answers.specs.declared.Told.{Told}
-use Rattle.answers.specs.declared.Written.{Written}
-use Rattle.answers.specs.declared.Written.TheVariants as written
 use Rattle.answers.specs.declared.DecodedWord.{DecodedWord}
-use Rattle.answers.specs.declared.ReceivedA.{ReceivedA}
-use Rattle.answers.specs.declared.ReceivedA.TheVariants as received_a
 use Rattle.answers.specs.declared.ReceivedBurst.{ReceivedBurst}
-use Rattle.answers.specs.declared.ReceivedB.{ReceivedB}
-use Rattle.answers.specs.declared.ReceivedB.TheVariants as received_b
 use Rattle.answers.proofs.Telling.{word_told, because_is, by_test}
 use Rattle.bits.proofs.Distances.{differ-le}
 use Rattle.bch.specs.Codes.{Code}
@@ -45,6 +39,7 @@ use Rattle.payload_b.proofs.TripsB.{up_sendable, quality_b}
 use Rattle.payload_b.proofs.StatesB.{after_few, sound_kept}
 use Rattle.payload_b.proofs.GivenB.{onward_kept}
 use Rattle.payload_b.specs.Courses.{told_of}
+use Rattle.std.specs.Prelude.{Ok, Err}
 
 -- what is told has at most so many bits mended, so many protected bits that differ, and so many bits mended in the worst block
 pub record Few (m p w : ℕ) (t : Told) : Type 0 where
@@ -61,8 +56,8 @@ few_refused e = record { mended = rw e (omega arith); protected = rw e (omega ar
 -- ---- encode, and sending: no counts
 
 pub few_written : (a : Written) → Few 0 0 0 (of_written a)
-few_written written.Accepted = few_accepted refl (omega arith) (omega arith) (omega arith)
-few_written (written.Refused why) = few_refused (because_is why)
+few_written (Ok counts) = few_accepted refl (omega arith) (omega arith) (omega arith)
+few_written (Err why) = few_refused (because_is why)
 
 -- ---- opening: none either
 
@@ -99,11 +94,11 @@ module _ (area : List ℕ) (answer : ReceivedBurst) (after : List ℕ) where
   few_received_a mode is qs receiving = by answer.answer refl
     where
       by : (r : ReceivedA) → answer.answer ≡ r → Few 32 12 16 (of_received_a r)
-      by (received_a.Accepted m p w) e =
-          let q = quality_a mode is qs area answer after receiving m p w (ap of_received_a e) in
-          let again = sent_again mode is qs area answer after receiving m p w (ap of_received_a e) in
+      by (Ok counts) e =
+          let q = quality_a mode is qs area answer after receiving counts.mended counts.protected counts.worst (ap of_received_a e) in
+          let again = sent_again mode is qs area answer after receiving counts.mended counts.protected counts.worst (ap of_received_a e) in
           few_accepted refl (omega (arith, q.high, q.near, mends_a mode)) (omega (arith, again.3)) (omega (arith, q.near, mends_a mode))
-      by (received_a.Refused why) e = few_refused (because_is why)
+      by (Err why) e = few_refused (because_is why)
 
 -- ---- receiving Payload B: 8 bits in each of 1,066 blocks, or 4 in each of 1,058
 
@@ -122,12 +117,14 @@ few_blocks (suc (suc (suc mode))) n m w known most high near = absurd (omega ari
 
 pub few_received_b : (area : List ℕ) (answer : ReceivedB) (after : List ℕ) (mode n : ℕ) (scheme : List ℕ) (is qs : List ℤ)
     → ReceivingB mode n scheme is qs area answer after → Few 8528 0 8 (of_received_b answer)
-few_received_b area (received_b.Accepted m w) after mode n scheme is qs receiving =
-    let q = quality_b mode n scheme is qs area (received_b.Accepted m w) after receiving m w refl in
-    let plan = up_sendable mode n scheme is qs area (received_b.Accepted m w) after receiving m w refl in
+few_received_b area (Ok counts) after mode n scheme is qs receiving =
+    let m = counts.mended in
+    let w = counts.worst in
+    let q = quality_b mode n scheme is qs area (counted_b m w) after receiving m w refl in
+    let plan = up_sendable mode n scheme is qs area (counted_b m w) after receiving m w refl in
     let few = few_blocks mode n m w plan.known (bits_most plan) q.high q.near in
     few_accepted refl few.0 (omega arith) few.1
-few_received_b area (received_b.Refused why) after mode n scheme is qs receiving = few_refused (because_is why)
+few_received_b area (Err why) after mode n scheme is qs receiving = few_refused (because_is why)
 
 -- ---- a step: the counts are over the blocks complete so far
 

@@ -1,9 +1,9 @@
 -- Bytes that hold a state hold that one: what one call leaves in a stream, the next one finds there. And which bytes do.
 -- Assumes nothing.
 use mathlib.Core.Path.{◌≡◌, refl, sym, ap, ap₂, ◌∙◌}
-use mathlib.Core.Bool.{Bool, true, false}
 use mathlib.Core.List.{List, ◌∷◌, ◌++◌}
-use Prim.Native.Nat.{ℕ, ◌+◌, ◌*◌, ◌%◌, ◌^◌, ◌≤◌, ◌<◌}
+use mathlib.Core.Bool.{Bool, true, false}
+use Prim.Native.Nat.{ℕ, ◌+◌, ◌*◌, ◌%◌, ◌^◌, ◌<◌}
 use native.Mathlib.Nat.{mod-eq_of_lt}
 use native.Mathlib.Omega.{arith}
 use lib.ListN.{length, get_or, take, drop, replicate, length-append, length-drop, take-append-drop}
@@ -15,7 +15,7 @@ use Rattle.payload_b.specs.declared.stream.Moving.{Moving}
 use Rattle.payload_b.specs.declared.stream.Course.{Course}
 use Rattle.payload_b.specs.Courses.{course_of}
 use Rattle.payload_b.proofs.Courses.{course_of_lem}
-use Rattle.bridge.specs.Streams.{Same, each, spread, number_at, nine_of, numbers_of, Formed, numbers_in, moving_in, lent_of, state_of}
+use Rattle.bridge.specs.Streams.{Same, spread, number_at, nine_of, numbers_of, Formed, numbers_in, moving_in, lent_of, state_of}
 use Rattle.bridge.proofs.Holds.{length-each, each_of, each_same, first_eight, length-spread, spread_at}
 
 -- two of the same parts
@@ -68,12 +68,6 @@ pub numbers_made : (block rest : List ℕ) → length block ≡ 8
     ≡ block ++ rest
 numbers_made block rest long =
     ap (λ (xs : List ℕ). xs ++ rest) (sym (first_eight block (omega arith)) ∙ take_all 8 block (omega arith))
-
--- the first thirteen are those that they were found by
-pub first_numbers : (numbers : List ℕ) → 13 ≤ length numbers → take 13 numbers ≡ take 13 (numbers_of (moving_in numbers))
-unfolding each
-first_numbers numbers l =
-    sym (each_of numbers 13 l) ∙ ap (λ (xs : List ℕ). take 13 (xs ++ nine_of (moving_in numbers))) (sym (first_eight numbers (omega arith)))
 
 module _ (m : Moving) (block_long : length m.block ≡ 8) where
   nine_at : (k : ℕ) → get_or (numbers_of m) (8 + k) 0 ≡ get_or (nine_of m) k 0

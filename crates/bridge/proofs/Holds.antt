@@ -2,14 +2,18 @@
 -- Assumes nothing.
 use mathlib.Core.Path.{◌≡◌, refl, sym, ap, ◌∙◌}
 use mathlib.Core.List.{List, [], ◌∷◌, ◌++◌, append_assoc}
-use Prim.Native.Nat.{ℕ, zero, suc, ◌+◌, ◌*◌, ◌/◌, ◌%◌, ◌^◌, ◌≤◌, ◌<◌}
+use Prim.Native.Nat.{ℕ, zero, suc, ◌+◌, ◌*◌, ◌^◌, ◌≤◌, ◌<◌}
 use native.Mathlib.Decide.{dec_lt}
-use native.Mathlib.Nat.{div-eq_of_lt, add-mul-div_left}
-use native.Mathlib.Numerals.{towards_suc}
+use native.Mathlib.Numerals.{add-one}
 use native.Mathlib.Omega.{arith}
-use lib.ListN.{length, get_or, set, take, drop, length-append, length-drop, get_or-append}
-use lib.Seq.{sets, sets-eq, take_at, drop_at, drop-drop, take-suc, take-add, get_or-drop, get_or-append-add, get_or-append_seam}
-use Rattle.bridge.specs.Streams.{each, octets, spread, FourBytes, number_at}
+use mir.Syntax.{w64}
+use Rattle.std.specs.Int.{to_le_bytes, from_le_bytes}
+use Rattle.std.proofs.lemmas.List.{get_or-take, get_or_past}
+use Rattle.std.proofs.lemmas.Nat.{le_bytes_8, from_le_bytes-to_le_bytes_8}
+use borrow.Rule.Slice.PartMut.{put_mid}
+use lib.ListN.{drop_of_length-le, length, replicate, get_or, take, drop, length-append, length-drop, get_or-append}
+use lib.Seq.{length-take-le, take_at, drop_at, drop-drop, take-suc, take-add, get_or-drop, get_or-append-add, get_or-append_seam}
+use Rattle.bridge.specs.Streams.{each, octets, spread, number_at}
 
 -- ---- by index
 
@@ -54,72 +58,43 @@ pub first_eight : (xs : List ℕ) → 8 ≤ length xs
 unfolding each
 first_eight xs l = sym (each_of xs 8 l)
 
--- ---- each byte of a number is the one that was put there
+-- ---- a number in eight bytes, as std has it
 
-digit : {w : ℕ} (a high : ℕ) → a < 256 → w ≡ a + 256 * high → w % 256 ≡ a
-digit a high l e = omega arith
+pub number_le : (bytes : List ℕ) (at : ℕ) → at + 8 ≤ length bytes → number_at bytes at ≡ from_le_bytes w64 (take 8 (drop at bytes))
+number_le bytes at l =
+    let one : (i j : ℕ) → i < 8 → j ≡ at + i → get_or bytes j 0 ≡ get_or (take 8 (drop at bytes)) i 0 =
+    λ i j s e. ap (λ (k : ℕ). get_or bytes k 0) e ∙ sym (get_or-drop at bytes i 0) ∙ sym (get_or-take 8 (drop at bytes) i 0 s) in
+    rw (
+      one 0 at (omega arith) (omega arith),
+      one 1 (at + 1) (omega arith) refl,
+      one 2 (at + 2) (omega arith) refl,
+      one 3 (at + 3) (omega arith) refl,
+      one 4 (at + 4) (omega arith) refl,
+      one 5 (at + 4 + 1) (omega arith) (omega arith),
+      one 6 (at + 4 + 2) (omega arith) (omega arith),
+      one 7 (at + 4 + 3) (omega arith) (omega arith),
+    ) (omega arith)
 
--- what lies below is left out, what lies above too
-part : {w : ℕ} (d x a high : ℕ) → x < d → a < 256 → w ≡ x + d * (a + 256 * high) → w / d % 256 ≡ a
-part {w} d x a high l m e =
-    let q = ap (λ (n : ℕ). n / d) e ∙ add-mul-div_left x (a + 256 * high) {y = d} (omega arith) in
-    digit a high m (omega (arith, q, div-eq_of_lt l))
+-- the eight bytes at a place, as a number, and its bytes again
+module _ (bytes word : List ℕ) (at k n : ℕ) (inside : at + 8 ≤ length bytes) (eight : k ≡ 8) (is : word ≡ take k (drop at bytes)) (read : n ≡ from_le_bytes w64 word) where
+  word_is : word ≡ take 8 (drop at bytes)
+  word_is = rw is (rw eight refl)
 
-module _ (a0 a1 a2 a3 a4 a5 a6 a7 : ℕ) (l0 : a0 < 256) (l1 : a1 < 256) (l2 : a2 < 256) (l3 : a3 < 256) where
-  abbrev low : ℕ
-  low = a0 + 256 * (a1 + 256 * (a2 + 256 * a3))
+  pub number_read : n ≡ number_at bytes at
+  number_read = read ∙ ap (from_le_bytes w64) word_is ∙ sym (number_le bytes at inside)
 
-  abbrev high : ℕ
-  high = a4 + 256 * (a5 + 256 * (a6 + 256 * a7))
-
-  abbrev word : ℕ
-  word = low + 0x100000000 * high
-
-  octets_of : a4 < 256 → a5 < 256 → a6 < 256 → a7 < 256 → octets word ≡ a0 ∷ a1 ∷ a2 ∷ a3 ∷ a4 ∷ a5 ∷ a6 ∷ a7 ∷ []
-  octets_of l4 l5 l6 l7 =
-      let e0 : word % 256 ≡ a0 = digit a0 (a1 + 256 * (a2 + 256 * a3) + 0x1000000 * high) l0 (omega arith) in
-      let e1 : word / 0x100 % 256 ≡ a1 = part 0x100 a0 a1 (a2 + 256 * a3 + 0x10000 * high) (omega arith) l1 (omega arith) in
-      let e2 : word / 0x10000 % 256 ≡ a2 = part 0x10000 (a0 + 256 * a1) a2 (a3 + 256 * high) (omega arith) l2 (omega arith) in
-      let e3 : word / 0x1000000 % 256 ≡ a3 = part 0x1000000 (a0 + 256 * (a1 + 256 * a2)) a3 high (omega arith) l3 (omega arith) in
-      let e4 : word / 0x100000000 % 256 ≡ a4 = part 0x100000000 low a4 (a5 + 256 * (a6 + 256 * a7)) (omega arith) l4 (omega arith) in
-      let e5 : word / 0x10000000000 % 256 ≡ a5 =
-      part 0x10000000000 (low + 0x100000000 * a4) a5 (a6 + 256 * a7) (omega arith) l5 (omega arith) in
-      let e6 : word / 0x1000000000000 % 256 ≡ a6 =
-      part 0x1000000000000 (low + 0x100000000 * (a4 + 256 * a5)) a6 a7 (omega arith) l6 (omega arith) in
-      let e7 : word / 0x100000000000000 % 256 ≡ a7 =
-      part 0x100000000000000 (low + 0x100000000 * (a4 + 256 * (a5 + 256 * a6))) a7 0 (omega arith) l7 (omega arith) in
-      rw (e0, e1, e2, e3, e4, e5, e6, e7) refl
-
-pub octets_at : (bytes : List ℕ) (at : ℕ) → at + 8 ≤ length bytes → FourBytes bytes at → FourBytes bytes (at + 4)
-    → octets (number_at bytes at) ≡ take 8 (drop at bytes)
-octets_at bytes at l low high =
-    let one : (i j : ℕ) → j ≡ at + i → get_or bytes j 0 ≡ get_or (drop at bytes) i 0 =
-    λ i j e. ap (λ (k : ℕ). get_or bytes k 0) e ∙ sym (get_or-drop at bytes i 0) in
-    octets_of (get_or bytes at 0) (get_or bytes (at + 1) 0) (get_or bytes (at + 2) 0) (get_or bytes (at + 3) 0) (get_or bytes (at + 4) 0)
-    (get_or bytes (at + 4 + 1) 0) (get_or bytes (at + 4 + 2) 0) (get_or bytes (at + 4 + 3) 0) low.0 low.1 low.2 low.3 high.0 high.1 high.2 high.3
-    ∙ rw (
-      one 0 at (omega arith),
-      one 1 (at + 1) refl,
-      one 2 (at + 2) refl,
-      one 3 (at + 3) refl,
-      one 4 (at + 4) refl,
-      one 5 (at + 4 + 1) (omega arith),
-      one 6 (at + 4 + 2) (omega arith),
-      one 7 (at + 4 + 3) (omega arith),
-    ) refl
-    ∙ sym (first_eight (drop at bytes) (omega (arith, length-drop at bytes)))
-
--- ---- and the number that its bytes stand for is the one that was written
-
-summed : (w r0 r1 r2 r3 r4 r5 r6 r7 q1 q2 q3 q4 q5 q6 q7 : ℕ) → w ≡ r0 + 256 * q1 → q1 ≡ r1 + 256 * q2 → q2 ≡ r2 + 256 * q3 → q3 ≡ r3 + 256 * q4
-    → q4 ≡ r4 + 256 * q5 → q5 ≡ r5 + 256 * q6 → q6 ≡ r6 + 256 * q7 → q7 ≡ r7
-    → r0 + 256 * (r1 + 256 * (r2 + 256 * r3)) + 0x100000000 * (r4 + 256 * (r5 + 256 * (r6 + 256 * r7))) ≡ w
-summed w r0 r1 r2 r3 r4 r5 r6 r7 q1 q2 q3 q4 q5 q6 q7 e0 e1 e2 e3 e4 e5 e6 e7 = omega arith
+  pub octets_read : ((i : ℕ) → get_or bytes i 0 < 256) → octets n ≡ take 8 (drop at bytes)
+  octets_read small =
+      le_bytes_8 (take 8 (drop at bytes)) n (length-take-le 8 (drop at bytes) (omega (arith, length-drop at bytes))) (λ i. by i (dec_lt i 8))
+      (read ∙ ap (from_le_bytes w64) word_is)
+    where
+      by : (i : ℕ) → Dec (i < 8) → get_or (take 8 (drop at bytes)) i 0 < 256
+      by i (yes m) = rw (get_or-take 8 (drop at bytes) i 0 m, get_or-drop at bytes i 0) (small (at + i))
+      by i (no m) =
+          rw (get_or_past (take 8 (drop at bytes)) i 0 (omega (arith, length-take-le 8 (drop at bytes) (omega (arith, length-drop at bytes))))) (omega arith)
 
 number_back : (w : ℕ) → w < 2 ^ 64 → number_at (octets w) 0 ≡ w
-number_back w l =
-    summed w _ _ _ _ _ _ _ _ (w / 0x100) (w / 0x10000) (w / 0x1000000) (w / 0x100000000) (w / 0x10000000000) (w / 0x1000000000000) (w / 0x100000000000000)
-    (omega arith) (omega arith) (omega arith) (omega arith) (omega arith) (omega arith) (omega arith) (omega arith)
+number_back w l = number_le (octets w) 0 (omega arith) ∙ from_le_bytes-to_le_bytes_8 w l
 
 number_behind : (xs ys : List ℕ) (w at : ℕ) → length xs ≡ at → w < 2 ^ 64 → number_at (xs ++ (octets w ++ ys)) at ≡ w
 number_behind xs ys w at e l =
@@ -185,29 +160,33 @@ module _ (f : ℕ → ℕ) (before : List ℕ) (k : ℕ) where
   abbrev spread_over : ℕ → List ℕ
   spread_over n = spread n f ++ drop (8 * n) before
 
-  pub length_over : 8 * k ≤ length before → length (spread_over k) ≡ length before
-  length_over l = length-append (spread k f) (drop (8 * k) before) ∙ rw (length-spread k f, length-drop (8 * k) before) (omega arith)
-
-  pub spread_more : take (8 * k) (spread_over k) ++ (octets (f k) ++ drop (8 * k + 8) (spread_over k)) ≡ spread_over (suc k)
-  spread_more =
+  pub spread_more : (now : List ℕ) (m : ℕ) (ys : List ℕ) → now ≡ spread_over k → m ≡ 8 → ys ≡ to_le_bytes w64 (f k) → put_mid (8 * k) m now ys ≡ spread_over (k + 1)
+  spread_more now m ys is eight written =
       let front : take (8 * k) (spread_over k) ≡ spread k f = take_at (spread k f) (drop (8 * k) before) (8 * k) (length-spread k f) in
       let end : 8 * k + 8 ≡ 8 * suc k = omega arith in
-      let back : drop (8 * k + 8) (spread_over k) ≡ drop (8 * suc k) before =
-      sym (drop-drop 8 (8 * k) (spread_over k))
-      ∙ ap (drop 8) (drop_at (spread k f) (drop (8 * k) before) (8 * k) (length-spread k f)) ∙ drop-drop 8 (8 * k) before
+      let back : drop 8 (drop (8 * k) (spread_over k)) ≡ drop (8 * suc k) before =
+      ap (drop 8) (drop_at (spread k f) (drop (8 * k) before) (8 * k) (length-spread k f)) ∙ drop-drop 8 (8 * k) before
       ∙ ap (λ (n : ℕ). drop n before) end in
-      rw (front, back, spread-suc k f) (sym (append_assoc (spread k f) (octets (f k)) (drop (8 * suc k) before)))
+      rw (is, eight, written, front, back, add-one, spread-suc k f) (sym (append_assoc (spread k f) (octets (f k)) (drop (8 * suc k) before)))
 
--- ---- eight bytes written one behind the other
+-- ---- numbers, a scheme behind them, and six zeros
 
-module _ (out : List ℕ) (at a0 a1 a2 a3 a4 a5 a6 a7 : ℕ) where
-  abbrev eight : List ℕ
-  eight = a0 ∷ a1 ∷ a2 ∷ a3 ∷ a4 ∷ a5 ∷ a6 ∷ a7 ∷ []
+module _ (f : ℕ → ℕ) (before scheme : List ℕ) (long : length before ≡ 352) (entries : length scheme ≡ 210) where
+  put_scheme : (now ys : List ℕ) → now ≡ spread 17 f ++ drop 136 before → ys ≡ scheme → put_mid 136 210 now ys ≡ (spread 17 f ++ scheme) ++ drop 346 before
+  put_scheme now ys is written =
+      let front = take_at (spread 17 f) (drop 136 before) 136 (length-spread 17 f) in
+      let back = drop_at (spread 17 f) (drop 136 before) 136 (length-spread 17 f) in
+      rw (is, written, front, back, drop-drop 210 136 before) (sym (append_assoc (spread 17 f) scheme (drop 346 before)))
 
-  pub eight_put : at + 7 < length out
-      → set (set (set (set (set (set (set (set out at a0) (at + 1) a1) (at + 2) a2) (at + 3) a3) (at + 4) a4) (at + 5) a5) (at + 6) a6) (at + 7) a7
-      ≡ take at out ++ (eight ++ drop (at + 8) out)
-  eight_put l =
-      let put : sets out at eight ≡ take at out ++ (eight ++ drop (at + 8) out) =
-      sets-eq eight out at (omega arith) ∙ append_assoc (take at out) eight (drop (at + 8) out) in
-      simp towards_suc (simp towards_suc at put)
+  pub hold_is : (now ys zs : List ℕ) → now ≡ spread 17 f ++ drop 136 before → ys ≡ scheme
+      → zs ≡ replicate (length (take 6 (drop 346 (put_mid 136 210 now ys)))) 0 → put_mid 346 6 (put_mid 136 210 now ys) zs ≡ spread 17 f ++ (scheme ++ replicate 6 0)
+  hold_is now ys zs is written zeros =
+      let whole = put_scheme now ys is written in
+      let front_long : length (spread 17 f ++ scheme) ≡ 346 = length-append (spread 17 f) scheme ∙ rw (length-spread 17 f, entries) refl in
+      let front = ap (take 346) whole ∙ take_at (spread 17 f ++ scheme) (drop 346 before) 346 front_long in
+      let behind = ap (drop 346) whole ∙ drop_at (spread 17 f ++ scheme) (drop 346 before) 346 front_long in
+      let back : drop 6 (drop 346 (put_mid 136 210 now ys)) ≡ [] =
+      ap (drop 6) behind ∙ drop-drop 6 346 before ∙ drop_of_length-le before {i = 352} (omega (arith, long)) in
+      let six : length (take 6 (drop 346 (put_mid 136 210 now ys))) ≡ 6 =
+      ap (λ (xs : List ℕ). length (take 6 xs)) behind ∙ length-take-le 6 (drop 346 before) (omega (arith, long, length-drop 346 before)) in
+      rw (front, back, zeros, six) (append_assoc (spread 17 f) scheme (replicate 6 0))

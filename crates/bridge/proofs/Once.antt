@@ -10,11 +10,9 @@ use Rattle.payload_a.proofs.OnceA.{send_a_once, receive_a_once}
 use Rattle.payload_b.proofs.OnceB.{send_b_once, receive_b_once}
 use Rattle.payload_b.proofs.OnceStream.{open_once, step_once}
 use Rattle.decisions.proofs.OnceDecided.{decide_a_once, decide_b_once}
-use Rattle.answers.specs.Answers.{of_written, of_decoded, of_received_a, of_received_b}
-use Rattle.answers.specs.declared.Written.{Written}
+use Rattle.answers.specs.Answers.{of_written, of_decoded, of_received_a, of_received_b, ReceivedB, Written}
 use Rattle.answers.specs.declared.DecodedWord.{DecodedWord}
 use Rattle.answers.specs.declared.ReceivedBurst.{ReceivedBurst}
-use Rattle.answers.specs.declared.ReceivedB.{ReceivedB}
 use Rattle.bridge.specs.Calls.{answer_of, received_of}
 use Rattle.payload_b.specs.declared.stream.State.{State}
 use Rattle.payload_b.specs.Courses.{told_of}

@@ -1,13 +1,11 @@
 -- What an exported call promises: the promise of the codes or of a payload, and what the answer tells as a caller in C reads it.
 -- Assumes nothing.
 use Rattle.std.specs.Prelude.{◌≡◌, ◌⊎◌, ◌≢◌, List, ℕ, ℤ}
-use Rattle.answers.specs.Answers.{refused, of_written, of_decoded, of_received_a, of_received_b}
+use Rattle.answers.specs.Answers.{refused, of_written, of_decoded, of_received_a, of_received_b, ReceivedB, Written}
 use Rattle.answers.specs.Checks.{Checked, fails, passes}
 use Rattle.answers.specs.declared.Told.{Told}
-use Rattle.answers.specs.declared.Written.{Written}
 use Rattle.answers.specs.declared.DecodedWord.{DecodedWord}
 use Rattle.answers.specs.declared.ReceivedBurst.{ReceivedBurst}
-use Rattle.answers.specs.declared.ReceivedB.{ReceivedB}
 use Rattle.bch.specs.Promise.{Encoding, Decoding}
 use Rattle.payload_a.specs.PromiseA.{SendingA, ReceivingA}
 use Rattle.payload_b.specs.CodedB.{symbols_for}

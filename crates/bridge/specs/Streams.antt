@@ -29,10 +29,6 @@ unfoldable pub spread : ℕ → (ℕ → ℕ) → List ℕ
 spread zero f = []
 spread (suc n) f = spread n f ++ octets (f n)
 
--- four elements from this one on are bytes
-abbrev pub FourBytes : List ℕ → ℕ → Type 0
-FourBytes bytes at = (get_or bytes at 0 < 256) × (get_or bytes (at + 1) 0 < 256) × (get_or bytes (at + 2) 0 < 256) × (get_or bytes (at + 3) 0 < 256)
-
 -- the number of four bytes from this one on, and of eight
 abbrev pub four_at : List ℕ → ℕ → ℕ
 four_at bytes at = get_or bytes at 0 + 256 * (get_or bytes (at + 1) 0 + 256 * (get_or bytes (at + 2) 0 + 256 * get_or bytes (at + 3) 0))

@@ -11,7 +11,6 @@ mod lent;
 use answers::{PLACES, Refusal, Told};
 use lent::{BYTES, SCHEME, ZEROS};
 use payload_b::plan;
-use payload_b::plan::Verdict;
 
 // The number, 0 for success, its place, and the count of bits mended, 0 where the call has none.
 #[repr(C)]
@@ -48,7 +47,7 @@ pub struct Needed {
 pub extern "C" fn ortkaveq_encode(code: u8, word: &[u8], out: &mut [u8]) -> Answer
     ensures { EncodeCall code word.now out.old result out.new }
 {
-    answer_of(answers::of_written(encoder::encode(code, word, out)))
+    answer_of(Told::from(encoder::encode(code, word, out)))
 }
 
 // Writes the n bits of the codeword that differs from the n bits of word in at most t places, if there is one, and the list of those places; 0 in a refusal.
@@ -62,10 +61,10 @@ pub extern "C" fn ortkaveq_decode(
     ensures { DecodeCall code word.now out.old result out.new places.new }
 {
     let decoded = decoder::decode(code, word, out);
-    let answer = decoded.answer;
+    // By a variable: of a field that is an array the borrow checker covers no straight store.
     let list = decoded.places;
     *places = list;
-    answer_of(answers::of_decoded(answer))
+    answer_of(Told::from(decoded.answer))
 }
 
 // Sends a frame of Payload A: writes 512 elements of I and of Q.
@@ -73,7 +72,7 @@ pub extern "C" fn ortkaveq_decode(
 pub extern "C" fn ortkaveq_send_a(mode: u8, frame: &[u8], i: &mut [i16], q: &mut [i16]) -> Answer
     ensures { SendACall mode frame.now i.old q.old result i.new q.new }
 {
-    answer_of(answers::of_written(sender_a::send_a(mode, frame, i, q)))
+    answer_of(Told::from(sender_a::send_a(mode, frame, i, q)))
 }
 
 // Receives a frame of Payload A from 512 elements of I and of Q: writes its bytes to the first of the area, and the lists of the places mended in each half;
@@ -90,12 +89,11 @@ pub extern "C" fn ortkaveq_receive_a(
     ensures { ReceiveACall mode i.now q.now area.old result area.new first.new second.new }
 {
     let received = receiver_a::receive_a(mode, i, q, area);
-    let answer = received.answer;
     let of_first = received.first;
     let of_second = received.second;
     *first = of_first;
     *second = of_second;
-    all_told(answers::of_received_a(answer))
+    all_told(Told::from(received.answer))
 }
 
 // Sends a frame of Payload B by a scheme: writes 256 elements of I and of Q for each OFDM symbol needed.
@@ -109,7 +107,7 @@ pub extern "C" fn ortkaveq_send_b(
 ) -> Answer
     ensures { SendBCall mode frame.now scheme.now i.old q.old result i.new q.new }
 {
-    answer_of(answers::of_written(sender_b::send_b(mode, frame, scheme, i, q)))
+    answer_of(Told::from(sender_b::send_b(mode, frame, scheme, i, q)))
 }
 
 // Receives a frame of Payload B, of so many bytes: writes them to the first of the area.
@@ -124,7 +122,7 @@ pub extern "C" fn ortkaveq_receive_b(
 ) -> Received
     ensures { ReceiveBCall mode size scheme.now i.now q.now area.old result area.new }
 {
-    all_told(answers::of_received_b(receiver_b::receive_b(mode, size, scheme, i, q, area)))
+    all_told(Told::from(receiver_b::receive_b(mode, size, scheme, i, q, area)))
 }
 
 // How many OFDM symbols a frame of Payload B needs, of so many bytes, by a scheme: send and receive B ask for 256 elements of I and of Q for each.
@@ -132,10 +130,13 @@ pub extern "C" fn ortkaveq_receive_b(
 pub extern "C" fn ortkaveq_symbols_b(mode: u8, size: usize, scheme: &[u8]) -> Needed
     ensures { SymbolsBCall mode size scheme.now result }
 {
-    let verdict = plan::judged(mode, size, scheme);
-    match verdict {
-        Verdict::Passes(plan) => so_many(plan.symbols as u32),
-        Verdict::Fails(why) => none_needed(answers::of_refusal(why)),
+    match plan::judged(mode, size, scheme) {
+        Ok(plan) => Needed {
+            number: 0,
+            symbols: plan.symbols as u32,
+            place: 0,
+        },
+        Err(why) => none_needed(Told::from(why)),
     }
 }
 
@@ -150,10 +151,8 @@ pub extern "C" fn ortkaveq_open_b(
     ensures { OpenBCall mode size scheme.now result stream.new }
 {
     let state = receiver_b::open_b(mode, size, scheme);
-    let course = state.course;
-    let bytes = lent::holding(state);
-    *stream = bytes;
-    answer_of(payload_b::stream::told(course))
+    lent::hold(state, stream);
+    answer_of(payload_b::stream::told(state.course))
 }
 
 // Receives the next OFDM symbol of a stream, 256 elements of I and of Q: writes the bytes of the blocks that are complete by it to their place in the area, and
@@ -167,17 +166,12 @@ pub extern "C" fn ortkaveq_step_b(
 ) -> Received
     ensures { StepBCall stream.old i.now q.now area.old result stream.new area.new }
 {
-    let bytes = &stream[..];
-    let numbers = lent::numbers_in(bytes);
-    let from = lent::held(numbers);
-    if !lent::holds(bytes, numbers, from) {
-        return all_told(answers::of_refusal(Refusal::Forged));
-    }
-    let moved = receiver_b::step_lent(&bytes[SCHEME..ZEROS], from, i, q, area);
-    let answer = moved.answer;
-    let after = lent::numbers_of(moved.moving);
-    lent::put_numbers(&after, stream);
-    all_told(answers::of_received_b(answer))
+    let Some(from) = lent::found(stream) else {
+        return all_told(Told::from(Refusal::Forged));
+    };
+    let moved = receiver_b::step_lent(&stream[SCHEME..ZEROS], from, i, q, area);
+    lent::put_numbers(&lent::numbers_of(moved.moving), stream);
+    all_told(Told::from(moved.answer))
 }
 
 // Decides noisy points of Payload A, in sixty-fourths of a level, to the nearest: writes 512 elements of oi and of oq.
@@ -191,7 +185,7 @@ pub extern "C" fn ortkaveq_decide_a(
 ) -> Answer
     ensures { DecideACall mode i.now q.now oi.old oq.old result oi.new oq.new }
 {
-    answer_of(answers::of_written(decider::decide_a(mode, i, q, oi, oq)))
+    answer_of(Told::from(decider::decide_a(mode, i, q, oi, oq)))
 }
 
 // Decides those of Payload B, by mode, frame length and scheme: writes 256 elements of oi and of oq for each OFDM symbol needed.
@@ -207,7 +201,7 @@ pub extern "C" fn ortkaveq_decide_b(
 ) -> Answer
     ensures { DecideBCall mode size scheme.now i.now q.now oi.old oq.old result oi.new oq.new }
 {
-    answer_of(answers::of_written(decider::decide_b(mode, size, scheme, i, q, oi, oq)))
+    answer_of(Told::from(decider::decide_b(mode, size, scheme, i, q, oi, oq)))
 }
 
 // What an answer tells, with one count.
@@ -216,7 +210,7 @@ fn answer_of(t: Told) -> Answer
     ensures { result ≡ answer_of t }
 {
     Answer {
-        number: t.number as u32,
+        number: u32::from(t.number),
         mended: t.mended as u32,
         place: t.place as u64,
     }
@@ -228,22 +222,11 @@ fn all_told(t: Told) -> Received
     ensures { result ≡ received_of t }
 {
     Received {
-        number: t.number as u16,
+        number: u16::from(t.number),
         mended: t.mended as u16,
         protected: t.protected as u16,
         worst: t.worst as u16,
         place: t.place as u64,
-    }
-}
-
-// So many OFDM symbols.
-fn so_many(symbols: u32) -> Needed
-    ensures { result ≡ record { number = 0; symbols = symbols; place = 0 } }
-{
-    Needed {
-        number: 0,
-        symbols,
-        place: 0,
     }
 }
 
@@ -252,7 +235,7 @@ fn none_needed(t: Told) -> Needed
     ensures { result ≡ record { number = t.number; symbols = 0; place = t.place } }
 {
     Needed {
-        number: t.number as u32,
+        number: u32::from(t.number),
         symbols: 0,
         place: t.place as u64,
     }

@@ -16,22 +16,13 @@ fn entry(row: u16, y: u16) -> u16 {
     }
 }
 
-fn low(v: u16) -> u8 {
-    (v % 256) as u8
-}
-
-fn high(v: u16) -> u8 {
-    (v / 256) as u8
-}
-
 fn write_row<W: Write>(row: u16, to: &mut W) -> io::Result<()>
     ensures { Grows (W.contents to.old) (W.contents to.new) }
 {
     let mut out = [0u8; 1024];
-    for y in 0..512usize {
-        let v = entry(row, y as u16);
-        out[y * 2] = low(v);
-        out[y * 2 + 1] = high(v);
+    for y in 0..512u16 {
+        let at = usize::from(y) * 2;
+        out[at..at + 2].copy_from_slice(&entry(row, y).to_le_bytes());
     }
     streams::write_whole(to, &out)
 }

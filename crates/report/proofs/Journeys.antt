@@ -10,9 +10,8 @@ use borrow.Author.Tests.{eq-eqb, ne_eqb}
 use lib.Dec.{eqb}
 use lib.IntN.{ℤ}
 use lib.ListN.{length, get_or}
-use Rattle.answers.specs.Answers.{accepted, refused, of_written, of_received_a}
+use Rattle.answers.specs.Answers.{accepted, refused, of_written, of_received_a, Written}
 use Rattle.answers.specs.declared.Told.{Told}
-use Rattle.answers.specs.declared.Written.{Written}
 use Rattle.answers.specs.declared.ReceivedBurst.{ReceivedBurst}
 use Rattle.bits.proofs.Octets.{bytes_from}
 use Rattle.symbols.proofs.Rooms.{room_enough}

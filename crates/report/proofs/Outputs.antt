@@ -8,8 +8,9 @@ use native.Mathlib.Omega.{arith}
 use borrow.Author.Tests.{eq-eqb, ne_eqb}
 use lib.Dec.{eqb}
 use lib.ListN.{length}
+use Rattle.std.specs.Fmt.{digits}
 use Rattle.report.specs.Lines.{ascii, lines_of}
-use Rattle.report.specs.Made.{decimal_in, decimal, accepted_lines, refused_line, answer_lines, mode_for, trip_of}
+use Rattle.report.specs.Made.{accepted_lines, refused_line, answer_lines, mode_for, trip_of}
 
 pub mode_known : (n : ℕ) → mode_for n ≤ 1
 mode_known n = by (ℕ_discrete n 94)
@@ -20,15 +21,15 @@ mode_known n = by (ℕ_discrete n 94)
 
 -- the three texts
 coded : accepted_lines 58 0 0 ≡ ascii "payload A 58 bytes\ncorrected 0 protected 0 check ok\n"
-unfolding accepted_lines decimal decimal_in ascii
+unfolding accepted_lines digits ascii
 coded = refl
 
 uncoded : accepted_lines 94 0 0 ≡ ascii "payload A 94 bytes\ncorrected 0 protected 0 check ok\n"
-unfolding accepted_lines decimal decimal_in ascii
+unfolding accepted_lines digits ascii
 uncoded = refl
 
 refused : refused_line 2 0 ≡ ascii "refused 2 place 0\n"
-unfolding refused_line decimal decimal_in ascii
+unfolding refused_line digits ascii
 refused = refl
 
 pub lines_are : (n : ℕ) → answer_lines n (trip_of (mode_for n) n) ≡ lines_of n

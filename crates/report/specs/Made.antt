@@ -1,21 +1,12 @@
--- How the lines are made, which is what the private functions promise one another: numbers in decimal, and the lines for each answer.
+-- How the lines are made, which is what the private functions promise one another: the lines for each answer.
 -- The promise of the report rests on nothing here.
 -- Assumes nothing.
-use Rattle.std.specs.Prelude.{◌≡◌, cond, List, [], ◌∷◌, ◌++◌, ℕ, zero, suc, ◌+◌, ◌/◌, ◌%◌, ◌≤◌, ltb, eqb, length}
+use Rattle.std.specs.Prelude.{◌≡◌, cond, List, ◌++◌, ℕ, ◌+◌, ◌≤◌, eqb, length, decimal}
 use Rattle.payload_a.specs.CodedA.{bytes_a}
 use Rattle.answers.specs.Answers.{accepted, refused}
 use Rattle.answers.specs.declared.Told.{Told}
 use Rattle.report.specs.declared.Text.{Text}
 use Rattle.report.specs.Lines.{ascii, text_of}
-
--- the decimal digits of a number of at most k, in ASCII, the most significant first and no zero in front
-unfoldable pub decimal_in : ℕ → ℕ → List ℕ
-decimal_in zero n = []
-decimal_in (suc k) n = cond (ltb n 10) ((48 + n) ∷ []) (decimal_in k (n / 10) ++ ((48 + n % 10) ∷ []))
-
--- a number of 64 bits has at most 20
-unfoldable pub decimal : ℕ → List ℕ
-decimal n = decimal_in 20 n
 
 -- the two lines for a frame that was received
 unfoldable pub accepted_lines : ℕ → ℕ → ℕ → List ℕ

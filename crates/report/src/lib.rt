@@ -6,52 +6,41 @@
 #![tactic(auto)]
 
 ghost use Rattle.std.specs.Prelude.{◌≡◌, ◌≤◌, length};
-ghost use Rattle.payload_a.specs.PromiseA.{elements_a};
+ghost use Rattle.answers.specs.Answers.{of_received_a};
 ghost use Rattle.report.specs.Lines.{lines_of, text_of, Counted};
 ghost use Rattle.report.specs.Made.{mode_for, trip_of};
 
-use answers::Told;
+use answers::{MendedA, Refusal, Told};
 use payload_a::ELEMENTS;
 
 mod lines;
 mod writer;
 
-// A text of at most 128 bytes: the first count of them, and zeros behind.
+// A text of at most 128 bytes: the first count of them, and zeros behind. It is put together here and not by std's `write!`, which answers a Result: no clause
+// of std says that it is Ok where there is room, and what `report` ensures has no other case.
 #[derive(Clone, Copy)]
 pub struct Text {
     pub bytes: [u8; 128],
     pub count: usize,
 }
 
-// The mode for a frame of n bytes. The sender refuses a frame that has another length than its mode's.
+// The mode for a frame of n bytes, by the number that sending and receiving take. The sender refuses a frame that has another length than its mode's.
 fn mode_for(n: usize) -> u8
     ensures { result ≡ mode_for n }
 {
     if n == 94 { 0 } else { 1 }
 }
 
-// Room for the levels of two OFDM symbols.
-fn levels() -> [i16; ELEMENTS]
-    ensures { elements_a ≡ length result }
-{
-    [0; ELEMENTS]
-}
-
-// Sends a frame and receives it back: what the receiver tells, or the sender's refusal.
-fn trip(mode: u8, frame: &[u8]) -> Told
+// Sends a frame and receives it back: what the receiver answers, or the sender's refusal.
+fn trip(mode: u8, frame: &[u8]) -> Result<MendedA, Refusal>
     requires { mode ≤ 1 }
-    ensures { result ≡ trip_of mode (length frame.now) }
+    ensures { of_received_a result ≡ trip_of mode (length frame.now) }
 {
-    let mut i = levels();
-    let mut q = levels();
-    let sent = answers::of_written(sender_a::send_a(mode, frame, &mut i, &mut q));
-    if sent.number != 0 {
-        return sent;
-    }
+    let mut i = [0i16; ELEMENTS];
+    let mut q = [0i16; ELEMENTS];
+    sender_a::send_a(mode, frame, &mut i, &mut q)?;
     let mut area = [0u8; 94];
-    let received = receiver_a::receive_a(mode, &i, &q, &mut area);
-    let answer = received.answer;
-    answers::of_received_a(answer)
+    receiver_a::receive_a(mode, &i, &q, &mut area).answer
 }
 
 // What the bench program writes for a frame.
@@ -60,5 +49,5 @@ pub fn report(frame: &[u8]) -> Text
     ensures counted { Counted result }
 {
     let n = frame.len();
-    lines::answered(n, trip(mode_for(n), frame))
+    lines::answered(n, Told::from(trip(mode_for(n), frame)))
 }

@@ -25,13 +25,13 @@ fn refused(number: usize, place: usize) -> Text
     writer::with(t, b"\n")
 }
 
-// The lines for what an answer tells of a frame of so many bytes.
+// The lines for what an answer tells of a frame of so many bytes. `Told` alone has the number and the place of every refusal, which the text is made of.
 pub(crate) fn answered(bytes: usize, told: Told) -> Text
     ensures { result ≡ text_of (answer_lines bytes told) }
 {
     if told.number == 0 {
         accepted(bytes, told.mended, told.protected)
     } else {
-        refused(told.number as usize, told.place)
+        refused(usize::from(told.number), told.place)
     }
 }

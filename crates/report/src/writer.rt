@@ -1,9 +1,10 @@
 // A text, byte by byte and number by number.
-ghost use Rattle.std.specs.Prelude.{◌≡◌, List, [], ◌++◌, ℕ, ◌+◌, ◌≤◌, length, drop};
+ghost use Rattle.std.specs.Prelude.{◌≡◌, List, [], ◌++◌, ℕ, ◌+◌, length, decimal};
 ghost use Rattle.report.specs.Lines.{text_of};
-ghost use Rattle.report.specs.Made.{decimal, Room};
+ghost use Rattle.report.specs.Made.{Room};
 
 use crate::Text;
+use itoa::Buffer;
 
 // The empty text.
 pub(crate) fn empty() -> Text
@@ -27,28 +28,11 @@ pub(crate) fn with(text: Text, more: &[u8]) -> Text
     Text { bytes, count: end }
 }
 
-// Puts the decimal digits of n at the end of out, and answers where they begin.
-fn spell(n: usize, out: &mut [u8]) -> usize
-    requires { length out.old ≡ 20 }
-    ensures { (result ≤ 20) × (drop result out.new ≡ decimal n) }
-{
-    let mut i: usize = 19;
-    let mut rest = n;
-    while 10 <= rest {
-        out[i] = 48 + (rest % 10) as u8;
-        rest /= 10;
-        i -= 1;
-    }
-    out[i] = 48 + rest as u8;
-    i
-}
-
 // A text with a word and a number behind it, the number in decimal.
 pub(crate) fn with_number(text: Text, word: &[u8], n: usize) -> Text
     requires { Room (length word.now + 20) text }
     ensures { (held : List ℕ) → text ≡ text_of held → result ≡ text_of (held ++ word.now ++ decimal n) }
 {
-    let mut digits = [0u8; 20];
-    let from = spell(n, &mut digits);
-    with(with(text, word), &digits[from..20])
+    let mut digits = Buffer::new();
+    with(with(text, word), digits.format(n).as_bytes())
 }

@@ -2,7 +2,8 @@
 ghost use Rattle.streams.specs.Streams.{LeavesRest, Grows};
 
 use crate::stop::Stop;
-use crate::{input, output};
+use crate::{Rooms, input, output};
+use answers::Told;
 use std::io;
 use std::io::{Read, Write};
 
@@ -10,14 +11,12 @@ use std::io::{Read, Write};
 pub(crate) fn serve_a<R: Read, W: Write>(
     from: &mut R,
     to: &mut W,
-    i: &mut [i16],
-    q: &mut [i16],
-    oi: &mut [i16],
-    oq: &mut [i16],
+    rooms: &mut Rooms,
 ) -> Result<(), Stop>
     ensures rest { LeavesRest (R.remaining from.old) (R.remaining from.new) }
     ensures grows { Grows (W.contents to.old) (W.contents to.new) }
 {
+    let Rooms { i, q, oi, oq, .. } = rooms;
     let mode = input::read_byte(from)?;
     let (m, l) = input::read_points(from, i, q)?;
     let (n, o) = input::read_points(from, oi, oq)?;
@@ -29,15 +28,19 @@ pub(crate) fn serve_a<R: Read, W: Write>(
 pub(crate) fn serve_b<R: Read, W: Write>(
     from: &mut R,
     to: &mut W,
-    scheme: &mut [u8],
-    i: &mut [i16],
-    q: &mut [i16],
-    oi: &mut [i16],
-    oq: &mut [i16],
+    rooms: &mut Rooms,
 ) -> Result<(), Stop>
     ensures rest { LeavesRest (R.remaining from.old) (R.remaining from.new) }
     ensures grows { Grows (W.contents to.old) (W.contents to.new) }
 {
+    let Rooms {
+        first: scheme,
+        i,
+        q,
+        oi,
+        oq,
+        ..
+    } = rooms;
     let mode = input::read_byte(from)?;
     let size = input::read_size(from)?;
     let s = input::read_list(from, scheme)?;
@@ -85,7 +88,7 @@ fn decide_a<W: Write>(
 ) -> io::Result<()>
     ensures grows { Grows (W.contents to.old) (W.contents to.new) }
 {
-    let told = answers::of_written(decider::decide_a(mode, i, q, oi, oq));
+    let told = Told::from(decider::decide_a(mode, i, q, oi, oq));
     output::write_sent(to, told, oi, oq)
 }
 
@@ -102,6 +105,6 @@ fn decide_b<W: Write>(
 ) -> io::Result<()>
     ensures grows { Grows (W.contents to.old) (W.contents to.new) }
 {
-    let told = answers::of_written(decider::decide_b(mode, size, scheme, i, q, oi, oq));
+    let told = Told::from(decider::decide_b(mode, size, scheme, i, q, oi, oq));
     output::write_sent(to, told, oi, oq)
 }

@@ -2,15 +2,12 @@
 // is read ahead of the request.
 //
 // Whatever comes of it, what is left of the input is its rest. An error leaves any elements in the lent room; the program reads no further.
-ghost use Rattle.std.specs.Prelude.{◌≡◌, [], ◌∷◌, ◌*◌, ◌^◌, ◌≤◌, ◌<◌, length, IfOk, OnOk, IsErrOf};
-ghost use Rattle.std.specs.Int.{w16};
+ghost use Rattle.std.specs.Prelude.{◌≡◌, [], ◌∷◌, ◌*◌, ◌≤◌, length, IfOk, OnOk, IsErrOf};
 ghost use Rattle.std.specs.Io.KnownBytes.{Consumes, IsAtEnd};
-ghost use Rattle.std.proofs.Common.{to_z};
-ghost use Rattle.trial.specs.Format.{value, levels_in};
+ghost use Rattle.trial.specs.Format.{levels_in};
 ghost use Rattle.streams.specs.Streams.{LeavesRest};
 
-use crate::parts;
-use crate::parts::PART;
+use crate::PART;
 use crate::stop::Stop;
 use std::io::Read;
 
@@ -42,7 +39,7 @@ pub(crate) fn read_size<R: Read>(from: &mut R) -> Result<usize, Stop>
 {
     let mut bytes = [0u8; 8];
     fill(from, &mut bytes)?;
-    Ok(value(&bytes))
+    Ok(usize::from_le_bytes(bytes))
 }
 
 // A list of bytes, into the first elements of room: how many.
@@ -75,8 +72,7 @@ fn read_levels<R: Read>(from: &mut R, room: &mut [i16]) -> Result<usize, Stop>
     ensures rest { LeavesRest (R.remaining from.old) (R.remaining from.new) }
 {
     let n = read_count(from, room.len())?;
-    let mut bytes = [0u8; 2 * PART];
-    read_parts(from, &mut room[0..n], &mut bytes)?;
+    read_parts(from, &mut room[0..n])?;
     Ok(n)
 }
 
@@ -87,32 +83,29 @@ pub(crate) fn read_count<R: Read>(from: &mut R, most: usize) -> Result<usize, St
 {
     let mut bytes = [0u8; 4];
     fill(from, &mut bytes)?;
-    let n = value(&bytes);
+    let n = u32::from_le_bytes(bytes) as usize;
     if n <= most { Ok(n) } else { Err(Stop::End) }
 }
 
-// Levels, part by part, by way of bytes.
-fn read_parts<R: Read>(from: &mut R, levels: &mut [i16], bytes: &mut [u8]) -> Result<(), Stop>
-    requires { 1024 ≤ length bytes.old }
+// Levels, part by part.
+fn read_parts<R: Read>(from: &mut R, levels: &mut [i16]) -> Result<(), Stop>
     ensures { LeavesRest (R.remaining from.old) (R.remaining from.new) }
 {
-    let mut i: usize = 0;
-    while i < levels.len() {
-        let end = parts::end(i, levels.len());
-        read_part(from, &mut levels[i..end], bytes)?;
-        i = end;
+    for part in levels.chunks_mut(PART) {
+        read_part(from, part)?;
     }
     Ok(())
 }
 
 // One part: two bytes for each level.
-fn read_part<R: Read>(from: &mut R, levels: &mut [i16], bytes: &mut [u8]) -> Result<(), Stop>
-    requires { length levels.old * 2 ≤ length bytes.old }
+fn read_part<R: Read>(from: &mut R, levels: &mut [i16]) -> Result<(), Stop>
+    requires { length levels.old ≤ 512 }
     ensures { LeavesRest (R.remaining from.old) (R.remaining from.new) }
 {
+    let mut bytes = [0u8; 2 * PART];
     let end = levels.len() * 2;
-    fill(from, &mut bytes[0..end])?;
-    unpack(bytes, levels);
+    fill(from, &mut bytes[..end])?;
+    unpack(&bytes, levels);
     Ok(())
 }
 
@@ -121,35 +114,7 @@ fn unpack(bytes: &[u8], levels: &mut [i16])
     requires { length levels.old * 2 ≤ length bytes.now }
     ensures { levels.new ≡ levels_in (length levels.old) bytes.now }
 {
-    let mut i: usize = 0;
-    while i < levels.len() {
-        let at = i * 2;
-        levels[i] = level(value(&bytes[at..at + 2]));
-        i += 1;
+    for i in 0..levels.len() {
+        levels[i] = i16::from_le_bytes([bytes[i * 2], bytes[i * 2 + 1]]);
     }
-}
-
-// The level whose two's complement is n.
-fn level(n: usize) -> i16
-    requires { n < 65536 }
-    ensures { result ≡ to_z w16 n }
-{
-    if n < 32768 {
-        return n as i16;
-    }
-    -1 - ((65535 - n) as i16)
-}
-
-// The number that at most eight bytes stand for, the lowest first.
-pub(crate) fn value(bytes: &[u8]) -> usize
-    requires { length bytes.now ≤ 8 }
-    ensures { (result ≡ value bytes.now) × (result < 256 ^ length bytes.now) }
-{
-    let mut n: usize = 0;
-    let mut i: usize = bytes.len();
-    while 0 < i {
-        i -= 1;
-        n = n * 256 + bytes[i] as usize;
-    }
-    n
 }

@@ -2,7 +2,8 @@
 ghost use Rattle.streams.specs.Streams.{LeavesRest, Grows};
 
 use crate::stop::Stop;
-use crate::{input, output};
+use crate::{Rooms, input, output};
+use answers::Told;
 use std::io;
 use std::io::{Read, Write};
 
@@ -10,13 +11,17 @@ use std::io::{Read, Write};
 pub(crate) fn serve_send<R: Read, W: Write>(
     from: &mut R,
     to: &mut W,
-    frame: &mut [u8],
-    i: &mut [i16],
-    q: &mut [i16],
+    rooms: &mut Rooms,
 ) -> Result<(), Stop>
     ensures rest { LeavesRest (R.remaining from.old) (R.remaining from.new) }
     ensures grows { Grows (W.contents to.old) (W.contents to.new) }
 {
+    let Rooms {
+        first: frame,
+        i,
+        q,
+        ..
+    } = rooms;
     let mode = input::read_byte(from)?;
     let n = input::read_list(from, frame)?;
     let (m, l) = input::read_points(from, i, q)?;
@@ -28,13 +33,17 @@ pub(crate) fn serve_send<R: Read, W: Write>(
 pub(crate) fn serve_receive<R: Read, W: Write>(
     from: &mut R,
     to: &mut W,
-    i: &mut [i16],
-    q: &mut [i16],
-    area: &mut [u8],
+    rooms: &mut Rooms,
 ) -> Result<(), Stop>
     ensures rest { LeavesRest (R.remaining from.old) (R.remaining from.new) }
     ensures grows { Grows (W.contents to.old) (W.contents to.new) }
 {
+    let Rooms {
+        first: area,
+        i,
+        q,
+        ..
+    } = rooms;
     let mode = input::read_byte(from)?;
     let (m, l) = input::read_points(from, i, q)?;
     let n = input::read_list(from, area)?;
@@ -52,7 +61,7 @@ fn send<W: Write>(
 ) -> io::Result<()>
     ensures grows { Grows (W.contents to.old) (W.contents to.new) }
 {
-    let told = answers::of_written(sender_a::send_a(mode, frame, i, q));
+    let told = Told::from(sender_a::send_a(mode, frame, i, q));
     output::write_sent(to, told, i, q)
 }
 
@@ -61,8 +70,7 @@ fn receive<W: Write>(to: &mut W, mode: u8, i: &[i16], q: &[i16], area: &mut [u8]
     ensures grows { Grows (W.contents to.old) (W.contents to.new) }
 {
     let received = receiver_a::receive_a(mode, i, q, area);
-    let answer = received.answer;
-    let told = answers::of_received_a(answer);
+    let told = Told::from(received.answer);
     let first = received.first;
     let second = received.second;
     output::write_answer(to, told)?;

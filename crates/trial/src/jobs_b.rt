@@ -2,7 +2,8 @@
 ghost use Rattle.streams.specs.Streams.{LeavesRest, Grows};
 
 use crate::stop::Stop;
-use crate::{input, output};
+use crate::{Rooms, input, output};
+use answers::Told;
 use std::io;
 use std::io::{Read, Write};
 
@@ -10,14 +11,18 @@ use std::io::{Read, Write};
 pub(crate) fn serve_send<R: Read, W: Write>(
     from: &mut R,
     to: &mut W,
-    frame: &mut [u8],
-    scheme: &mut [u8],
-    i: &mut [i16],
-    q: &mut [i16],
+    rooms: &mut Rooms,
 ) -> Result<(), Stop>
     ensures rest { LeavesRest (R.remaining from.old) (R.remaining from.new) }
     ensures grows { Grows (W.contents to.old) (W.contents to.new) }
 {
+    let Rooms {
+        first: frame,
+        second: scheme,
+        i,
+        q,
+        ..
+    } = rooms;
     let mode = input::read_byte(from)?;
     let n = input::read_list(from, frame)?;
     let s = input::read_list(from, scheme)?;
@@ -37,14 +42,18 @@ pub(crate) fn serve_send<R: Read, W: Write>(
 pub(crate) fn serve_receive<R: Read, W: Write>(
     from: &mut R,
     to: &mut W,
-    scheme: &mut [u8],
-    i: &mut [i16],
-    q: &mut [i16],
-    area: &mut [u8],
+    rooms: &mut Rooms,
 ) -> Result<(), Stop>
     ensures rest { LeavesRest (R.remaining from.old) (R.remaining from.new) }
     ensures grows { Grows (W.contents to.old) (W.contents to.new) }
 {
+    let Rooms {
+        first: area,
+        second: scheme,
+        i,
+        q,
+        ..
+    } = rooms;
     let mode = input::read_byte(from)?;
     let size = input::read_size(from)?;
     let s = input::read_list(from, scheme)?;
@@ -73,7 +82,7 @@ fn send<W: Write>(
 ) -> io::Result<()>
     ensures grows { Grows (W.contents to.old) (W.contents to.new) }
 {
-    let told = answers::of_written(sender_b::send_b(mode, frame, scheme, i, q));
+    let told = Told::from(sender_b::send_b(mode, frame, scheme, i, q));
     output::write_sent(to, told, i, q)
 }
 
@@ -89,7 +98,7 @@ fn receive<W: Write>(
 ) -> io::Result<()>
     ensures grows { Grows (W.contents to.old) (W.contents to.new) }
 {
-    let told = answers::of_received_b(receiver_b::receive_b(mode, size, scheme, i, q, area));
+    let told = Told::from(receiver_b::receive_b(mode, size, scheme, i, q, area));
     output::write_answer(to, told)?;
     output::write_count(to, told.mended)?;
     output::write_count(to, told.worst)?;

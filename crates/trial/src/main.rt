@@ -27,19 +27,18 @@
 // a read or a write that fails, with that error.
 #![tactic(auto)]
 
-ghost use Rattle.std.specs.Prelude.{◌≡◌, length};
 ghost use Rattle.streams.specs.Streams.{LeavesRest, Grows};
 
 use std::io;
 use std::io::{Read, Write};
 use stop::Stop;
+use word::Job;
 
 mod decide;
 mod input;
 mod jobs_a;
 mod jobs_b;
 mod output;
-mod parts;
 mod stop;
 mod stream;
 mod word;
@@ -50,66 +49,50 @@ const MOST_BYTES: usize = 67300;
 // The most elements of a list of levels.
 const MOST_LEVELS: usize = 65600;
 
-// Room for a list of bytes.
-fn room() -> [u8; MOST_BYTES]
-    ensures { 67300 ≡ length result }
-{
-    [0; MOST_BYTES]
-}
+// Lists of levels go in and out part by part, so that their bytes need little room: the most levels of a part.
+const PART: usize = 512;
 
-// Room for a list of levels.
-fn levels_room() -> [i16; MOST_LEVELS]
-    ensures { 65600 ≡ length result }
-{
-    [0; MOST_LEVELS]
+// What the lists of a request are read into: each job takes those that it has lists for, and names them. They stand on the stack, since an allocation that
+// fails would be one more way for the program to end.
+#[derive(Drop)]
+struct Rooms {
+    first: [u8; MOST_BYTES],
+    second: [u8; MOST_BYTES],
+    i: [i16; MOST_LEVELS],
+    q: [i16; MOST_LEVELS],
+    oi: [i16; MOST_LEVELS],
+    oq: [i16; MOST_LEVELS],
 }
 
 // Reads a request and writes its response.
-fn serve<R: Read, W: Write>(
-    from: &mut R,
-    to: &mut W,
-    first: &mut [u8],
-    second: &mut [u8],
-    i: &mut [i16],
-    q: &mut [i16],
-    oi: &mut [i16],
-    oq: &mut [i16],
-) -> Result<(), Stop>
+fn serve<R: Read, W: Write>(from: &mut R, to: &mut W, rooms: &mut Rooms) -> Result<(), Stop>
     ensures rest { LeavesRest (R.remaining from.old) (R.remaining from.new) }
     ensures grows { Grows (W.contents to.old) (W.contents to.new) }
 {
-    let job = input::read_byte(from)?;
-    match job {
-        1 | 2 => word::serve(from, to, job, first, second),
-        3 => jobs_a::serve_send(from, to, first, i, q),
-        4 => jobs_a::serve_receive(from, to, i, q, first),
-        5 => jobs_b::serve_send(from, to, first, second, i, q),
-        6 => jobs_b::serve_receive(from, to, second, i, q, first),
-        7 => decide::serve_a(from, to, i, q, oi, oq),
-        8 => decide::serve_b(from, to, first, i, q, oi, oq),
-        9 => stream::serve_stream(from, to, second, i, q, first),
-        16 => stream::serve_step(from, to, i, q, first),
+    // A job is named by its byte here and nowhere else: an enum of jobs would have the same arms a second time.
+    match input::read_byte(from)? {
+        1 => word::serve(from, to, Job::Encode, rooms),
+        2 => word::serve(from, to, Job::Decode, rooms),
+        3 => jobs_a::serve_send(from, to, rooms),
+        4 => jobs_a::serve_receive(from, to, rooms),
+        5 => jobs_b::serve_send(from, to, rooms),
+        6 => jobs_b::serve_receive(from, to, rooms),
+        7 => decide::serve_a(from, to, rooms),
+        8 => decide::serve_b(from, to, rooms),
+        9 => stream::serve_stream(from, to, rooms),
+        16 => stream::serve_step(from, to, rooms),
         _ => Err(Stop::End),
     }
 }
 
 // Serves one request after another, to the end of the input. A proved loop has to end, and nothing says that the input does: the turns are as many as
 // no run uses up.
-fn serve_all<R: Read, W: Write>(
-    from: &mut R,
-    to: &mut W,
-    first: &mut [u8],
-    second: &mut [u8],
-    i: &mut [i16],
-    q: &mut [i16],
-    oi: &mut [i16],
-    oq: &mut [i16],
-) -> io::Result<()>
+fn serve_all<R: Read, W: Write>(from: &mut R, to: &mut W, rooms: &mut Rooms) -> io::Result<()>
     ensures rest { LeavesRest (R.remaining from.old) (R.remaining from.new) }
     ensures grows { Grows (W.contents to.old) (W.contents to.new) }
 {
     for _ in 0..u64::MAX {
-        match serve(from, to, first, second, i, q, oi, oq) {
+        match serve(from, to, rooms) {
             Ok(()) => {}
             Err(Stop::End) => break,
             Err(Stop::Failed(error)) => return Err(error),
@@ -119,20 +102,13 @@ fn serve_all<R: Read, W: Write>(
 }
 
 fn main(rt: HostRuntime) -> io::Result<()> {
-    let mut first = room();
-    let mut second = room();
-    let mut i = levels_room();
-    let mut q = levels_room();
-    let mut oi = levels_room();
-    let mut oq = levels_room();
-    serve_all(
-        &mut rt.reader(),
-        &mut io::writer(&rt),
-        &mut first,
-        &mut second,
-        &mut i,
-        &mut q,
-        &mut oi,
-        &mut oq,
-    )
+    let mut rooms = Rooms {
+        first: [0; MOST_BYTES],
+        second: [0; MOST_BYTES],
+        i: [0; MOST_LEVELS],
+        q: [0; MOST_LEVELS],
+        oi: [0; MOST_LEVELS],
+        oq: [0; MOST_LEVELS],
+    };
+    serve_all(&mut rt.reader(), &mut io::writer(&rt), &mut rooms)
 }

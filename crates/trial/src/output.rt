@@ -1,14 +1,11 @@
 // Writing a response: how it begins, a count, a register, a byte, places, a list, the response to a send job. After an error a front of the bytes is
 // written, and the clause `front` says so; the program writes no further.
 ghost use Rattle.std.specs.Prelude.{◌≡◌, [], ◌∷◌, ◌++◌, ◌*◌, ◌≤◌, length, OnOk};
-ghost use Rattle.std.specs.Int.{w16};
 ghost use Rattle.std.specs.Io.KnownBytes.{Appends};
-ghost use Rattle.std.proofs.Common.{of_z};
 ghost use Rattle.streams.specs.Streams.{AppendsFront};
 ghost use Rattle.trial.specs.Format.{little_endian, pairs, level_bytes, head_bytes, list_bytes, level_list_bytes};
 
-use crate::parts;
-use crate::parts::PART;
+use crate::PART;
 use answers::{PLACES, Told};
 use std::io;
 use std::io::Write;
@@ -18,18 +15,15 @@ pub(crate) fn write_answer<W: Write>(to: &mut W, told: Told) -> io::Result<()>
     ensures ok { OnOk result (Appends (W.contents to.old) (W.contents to.new) (head_bytes told)) }
     ensures front { AppendsFront (W.contents to.old) (W.contents to.new) (head_bytes told) }
 {
-    let bytes = head(told.number, told.place);
-    streams::write_whole(to, &bytes)
+    streams::write_whole(to, &head(told.number, told.place))
 }
 
-// A count that an answer carries, in eight bytes.
+// A count that an answer carries, in eight bytes. It, a register and a byte have a function each: one over all widths would need a trait for one line.
 pub(crate) fn write_count<W: Write>(to: &mut W, n: usize) -> io::Result<()>
     ensures ok { OnOk result (Appends (W.contents to.old) (W.contents to.new) (little_endian 8 n)) }
     ensures front { AppendsFront (W.contents to.old) (W.contents to.new) (little_endian 8 n) }
 {
-    let mut bytes = [0u8; 8];
-    put(n, &mut bytes);
-    streams::write_whole(to, &bytes)
+    streams::write_whole(to, &n.to_le_bytes())
 }
 
 // A register, in two bytes.
@@ -37,17 +31,14 @@ pub(crate) fn write_register<W: Write>(to: &mut W, n: u16) -> io::Result<()>
     ensures ok { OnOk result (Appends (W.contents to.old) (W.contents to.new) (little_endian 2 n)) }
     ensures front { AppendsFront (W.contents to.old) (W.contents to.new) (little_endian 2 n) }
 {
-    let mut bytes = [0u8; 2];
-    put(n as usize, &mut bytes);
-    streams::write_whole(to, &bytes)
+    streams::write_whole(to, &n.to_le_bytes())
 }
 
 pub(crate) fn write_byte<W: Write>(to: &mut W, n: u8) -> io::Result<()>
     ensures ok { OnOk result (Appends (W.contents to.old) (W.contents to.new) (n ∷ [])) }
     ensures front { AppendsFront (W.contents to.old) (W.contents to.new) (n ∷ []) }
 {
-    let bytes = [n; 1];
-    streams::write_whole(to, &bytes)
+    streams::write_whole(to, &[n])
 }
 
 // The places that an answer lists, in two bytes each.
@@ -82,9 +73,8 @@ fn write_levels<W: Write>(to: &mut W, levels: &[i16]) -> io::Result<()>
     ensures ok { OnOk result (Appends (W.contents to.old) (W.contents to.new) (level_list_bytes levels.now)) }
     ensures front { AppendsFront (W.contents to.old) (W.contents to.new) (level_list_bytes levels.now) }
 {
-    let mut bytes = [0u8; 2 * PART];
     write_length(to, levels.len())?;
-    write_parts(to, levels, &mut bytes)
+    write_parts(to, levels)
 }
 
 // The response to job 3, 5, 7 or 8: two lists of levels follow the answer.
@@ -102,9 +92,7 @@ pub(crate) fn write_length<W: Write>(to: &mut W, n: usize) -> io::Result<()>
     ensures ok { OnOk result (Appends (W.contents to.old) (W.contents to.new) (little_endian 4 n)) }
     ensures front { AppendsFront (W.contents to.old) (W.contents to.new) (little_endian 4 n) }
 {
-    let mut bytes = [0u8; 4];
-    put(n, &mut bytes);
-    streams::write_whole(to, &bytes)
+    streams::write_whole(to, &n.to_le_bytes()[..4])
 }
 
 // The number of an answer in a byte, its place in eight.
@@ -112,81 +100,49 @@ fn head(number: u8, place: usize) -> [u8; 9]
     ensures { result ≡ number ∷ little_endian 8 place }
 {
     let mut bytes = [number; 9];
-    put(place, &mut bytes[1..9]);
+    bytes[1..].copy_from_slice(&place.to_le_bytes());
     bytes
 }
 
-// Levels, part by part, by way of bytes.
-fn write_parts<W: Write>(to: &mut W, levels: &[i16], bytes: &mut [u8]) -> io::Result<()>
-    requires { 1024 ≤ length bytes.old }
+// Levels, part by part.
+fn write_parts<W: Write>(to: &mut W, levels: &[i16]) -> io::Result<()>
     ensures ok { OnOk result (Appends (W.contents to.old) (W.contents to.new) (level_bytes levels.now)) }
     ensures front { AppendsFront (W.contents to.old) (W.contents to.new) (level_bytes levels.now) }
 {
-    let mut i: usize = 0;
-    while i < levels.len() {
-        let end = parts::end(i, levels.len());
-        write_part(to, &levels[i..end], bytes)?;
-        i = end;
+    for part in levels.chunks(PART) {
+        write_part(to, part)?;
     }
     Ok(())
 }
 
 // One part: two bytes for each level.
-fn write_part<W: Write>(to: &mut W, levels: &[i16], bytes: &mut [u8]) -> io::Result<()>
-    requires { length levels.now * 2 ≤ length bytes.old }
+fn write_part<W: Write>(to: &mut W, levels: &[i16]) -> io::Result<()>
+    requires { length levels.now ≤ 512 }
     ensures ok { OnOk result (Appends (W.contents to.old) (W.contents to.new) (level_bytes levels.now)) }
     ensures front { AppendsFront (W.contents to.old) (W.contents to.new) (level_bytes levels.now) }
 {
+    let mut bytes = [0u8; 2 * PART];
     let end = levels.len() * 2;
-    pack(levels, &mut bytes[0..end]);
-    streams::write_whole(to, &bytes[0..end])
+    pack(levels, &mut bytes[..end]);
+    streams::write_whole(to, &bytes[..end])
 }
 
-// The bytes of places.
+// The bytes of places. Here and in `pack` by index: what an iterator over the written part leaves there no clause says.
 fn pack_places(places: &[u16], bytes: &mut [u8])
     requires { length bytes.old ≡ length places.now * 2 }
     ensures { bytes.new ≡ pairs places.now }
 {
-    let mut i: usize = 0;
-    while i < places.len() {
-        let at = i * 2;
-        put(places[i] as usize, &mut bytes[at..at + 2]);
-        i += 1;
+    for i in 0..places.len() {
+        bytes[i * 2..i * 2 + 2].copy_from_slice(&places[i].to_le_bytes());
     }
 }
 
-// The bytes of levels.
+// The bytes of levels, in two's complement. Over the two types one function would need a trait, whose two impls are longer than this loop.
 fn pack(levels: &[i16], bytes: &mut [u8])
     requires { length bytes.old ≡ length levels.now * 2 }
     ensures { bytes.new ≡ level_bytes levels.now }
 {
-    let mut i: usize = 0;
-    while i < levels.len() {
-        let at = i * 2;
-        put(complement(levels[i]), &mut bytes[at..at + 2]);
-        i += 1;
-    }
-}
-
-// A level in two's complement: a number of 16 bits.
-fn complement(level: i16) -> usize
-    ensures { result ≡ of_z w16 level }
-{
-    if level < 0 {
-        return 65535 - ((-1 - level) as usize);
-    }
-    level as usize
-}
-
-// The lowest bytes of n, as many as out has places, the lowest first.
-fn put(n: usize, out: &mut [u8])
-    ensures { out.new ≡ little_endian (length out.old) n }
-{
-    let mut rest = n;
-    let mut i: usize = 0;
-    while i < out.len() {
-        out[i] = (rest % 256) as u8;
-        rest = rest / 256;
-        i += 1;
+    for i in 0..levels.len() {
+        bytes[i * 2..i * 2 + 2].copy_from_slice(&levels[i].to_le_bytes());
     }
 }

@@ -2,7 +2,7 @@
 //
 // A state is a list of 326 bytes: scheme 210, unfinished block 64 (eight words of 8), count 8, mode 1, frame length 8, OFDM symbols seen 8, scrambler's
 // register 2, mended 8, worst 8, and the number (1) and the place (8) of the refusal that it holds, both 0 in a state that is open.
-ghost use Rattle.std.specs.Prelude.{◌≡◌, ◌≤◌, length, OnOk};
+ghost use Rattle.std.specs.Prelude.{◌≤◌, OnOk};
 ghost use Rattle.std.specs.Io.KnownBytes.{Appends};
 ghost use Rattle.streams.specs.Streams.{LeavesRest, AppendsFront, Grows};
 ghost use Rattle.answers.specs.Answers.{of_received_b};
@@ -10,8 +10,8 @@ ghost use Rattle.trial.specs.Courses.{Says};
 ghost use Rattle.trial.specs.Format.{received_bytes, word_bytes};
 
 use crate::stop::Stop;
-use crate::{input, output};
-use answers::{ReceivedB, Refusal};
+use crate::{Rooms, input, output};
+use answers::{MendedB, Refusal, Told};
 use payload_b::stream;
 use payload_b::stream::{Course, State};
 use std::io;
@@ -27,25 +27,22 @@ const WORDS: usize = 8;
 // The most calls of a stream: as many as four bytes count.
 const MOST_CALLS: usize = 4294967295;
 
-// What a number and a place say of a stream, where they say anything.
-#[derive(Clone, Copy)]
-enum Said {
-    Of(Course),
-    Nothing,
-}
-
 // Reads the fields of job 9 up to its calls, mode, frame length, scheme, area and how many calls, opens the stream and makes them.
 pub(crate) fn serve_stream<R: Read, W: Write>(
     from: &mut R,
     to: &mut W,
-    scheme: &mut [u8],
-    i: &mut [i16],
-    q: &mut [i16],
-    area: &mut [u8],
+    rooms: &mut Rooms,
 ) -> Result<(), Stop>
     ensures rest { LeavesRest (R.remaining from.old) (R.remaining from.new) }
     ensures grows { Grows (W.contents to.old) (W.contents to.new) }
 {
+    let Rooms {
+        first: area,
+        second: scheme,
+        i,
+        q,
+        ..
+    } = rooms;
     let mode = input::read_byte(from)?;
     let size = input::read_size(from)?;
     let s = input::read_list(from, scheme)?;
@@ -68,13 +65,17 @@ pub(crate) fn serve_stream<R: Read, W: Write>(
 pub(crate) fn serve_step<R: Read, W: Write>(
     from: &mut R,
     to: &mut W,
-    i: &mut [i16],
-    q: &mut [i16],
-    area: &mut [u8],
+    rooms: &mut Rooms,
 ) -> Result<(), Stop>
     ensures rest { LeavesRest (R.remaining from.old) (R.remaining from.new) }
     ensures grows { Grows (W.contents to.old) (W.contents to.new) }
 {
+    let Rooms {
+        first: area,
+        i,
+        q,
+        ..
+    } = rooms;
     let mut bytes = [0u8; STATE];
     if input::read_list(from, &mut bytes)? < STATE {
         return Err(Stop::End);
@@ -101,8 +102,7 @@ fn open<R: Read, W: Write>(
     ensures grows { Grows (W.contents to.old) (W.contents to.new) }
 {
     let opened = receiver_b::open_b(mode, size, scheme);
-    let course = opened.course;
-    output::write_answer(to, stream::told(course))?;
+    output::write_answer(to, stream::told(opened.course))?;
     call_all(from, to, calls, opened, i, q, area)
 }
 
@@ -154,64 +154,61 @@ fn answer<W: Write>(
     ensures grows { Grows (W.contents to.old) (W.contents to.new) }
 {
     let stepped = receiver_b::step_b(*state, i, q, area);
-    let received = stepped.answer;
     *state = stepped.state;
-    write_received(to, received)?;
+    write_received(to, stepped.answer)?;
     output::write_list(to, area)
 }
 
 // The step of job 16, and its response. Where number and place are those of no refusal, it is answered as a state that no stream has.
-fn step<W: Write>(to: &mut W, bytes: &[u8], i: &[i16], q: &[i16], area: &mut [u8]) -> io::Result<()>
-    requires { length bytes.now ≡ 326 }
+fn step<W: Write>(
+    to: &mut W,
+    bytes: &[u8; STATE],
+    i: &[i16],
+    q: &[i16],
+    area: &mut [u8],
+) -> io::Result<()>
     ensures grows { Grows (W.contents to.old) (W.contents to.new) }
 {
-    let said = course_of(bytes[317], number_at(318, bytes));
-    match said {
-        Said::Nothing => {
-            write_received(to, ReceivedB::Refused(Refusal::Forged))?;
-            output::write_list(to, bytes)?;
-        }
-        Said::Of(course) => {
+    match course_of(bytes[317], number_at(318, bytes)) {
+        Some(course) => {
             let stepped = receiver_b::step_b(state_of(bytes, course), i, q, area);
-            let received = stepped.answer;
-            let after = stepped.state;
-            write_received(to, received)?;
-            write_state(to, after)?;
+            write_received(to, stepped.answer)?;
+            write_state(to, stepped.state)?;
+        }
+        None => {
+            write_received(to, Err(Refusal::Forged))?;
+            output::write_list(to, bytes)?;
         }
     }
     output::write_list(to, area)
 }
 
 // How every response to a step begins.
-fn write_received<W: Write>(to: &mut W, answer: ReceivedB) -> io::Result<()>
+fn write_received<W: Write>(to: &mut W, answer: Result<MendedB, Refusal>) -> io::Result<()>
     ensures ok { OnOk result (Appends (W.contents to.old) (W.contents to.new) (received_bytes (of_received_b answer))) }
     ensures front { AppendsFront (W.contents to.old) (W.contents to.new) (received_bytes (of_received_b answer)) }
 {
-    let told = answers::of_received_b(answer);
+    let told = Told::from(answer);
     output::write_answer(to, told)?;
     output::write_count(to, told.mended)?;
     output::write_count(to, told.worst)
 }
 
 // The course that tells this number and place, if there is one.
-fn course_of(number: u8, place: usize) -> Said
+fn course_of(number: u8, place: usize) -> Option<Course>
     ensures { Says number place result }
 {
-    let course = stream::course_of(number as u64, place);
-    let tells = stream::told(course);
-    if tells.number != number {
-        return Said::Nothing;
+    let course = stream::course_of(u64::from(number), place);
+    let told = stream::told(course);
+    if told.number == number && told.place == place {
+        Some(course)
+    } else {
+        None
     }
-    if tells.place != place {
-        return Said::Nothing;
-    }
-    Said::Of(course)
 }
 
 // The state of these bytes, but for number and place.
-fn state_of(bytes: &[u8], course: Course) -> State
-    requires { length bytes.now ≡ 326 }
-{
+fn state_of(bytes: &[u8; STATE], course: Course) -> State {
     State {
         scheme: scheme_of(bytes),
         block: block_of(bytes),
@@ -219,7 +216,7 @@ fn state_of(bytes: &[u8], course: Course) -> State
         mode: bytes[282],
         size: number_at(283, bytes),
         seen: number_at(291, bytes),
-        register: register_of(bytes),
+        register: u16::from_le_bytes([bytes[299], bytes[300]]),
         mended: number_at(301, bytes),
         worst: number_at(309, bytes),
         course,
@@ -227,43 +224,28 @@ fn state_of(bytes: &[u8], course: Course) -> State
 }
 
 // The scheme, the first of a state's bytes.
-fn scheme_of(bytes: &[u8]) -> [u8; POINTS]
-    requires { length bytes.now ≡ 326 }
-{
+fn scheme_of(bytes: &[u8; STATE]) -> [u8; POINTS] {
     let mut scheme = [0u8; POINTS];
-    let mut s: usize = 0;
-    while s < POINTS {
-        scheme[s] = bytes[s];
-        s += 1;
-    }
+    scheme.copy_from_slice(&bytes[..POINTS]);
     scheme
 }
 
 // The unfinished block, behind the scheme.
-fn block_of(bytes: &[u8]) -> [u64; WORDS]
-    requires { length bytes.now ≡ 326 }
-{
+fn block_of(bytes: &[u8; STATE]) -> [u64; WORDS] {
     let mut block = [0u64; WORDS];
-    let mut w: usize = 0;
-    while w < WORDS {
+    for w in 0..WORDS {
         block[w] = number_at(POINTS + w * 8, bytes) as u64;
-        w += 1;
     }
     block
 }
 
-// The scrambler's register, in two bytes.
-fn register_of(bytes: &[u8]) -> u16
-    requires { length bytes.now ≡ 326 }
-{
-    input::value(&bytes[299..301]) as u16
-}
-
 // The number in the eight bytes from at on.
-fn number_at(at: usize, bytes: &[u8]) -> usize
-    requires { (length bytes.now ≡ 326) × (at ≤ 318) }
+fn number_at(at: usize, bytes: &[u8; STATE]) -> usize
+    requires { at ≤ 318 }
 {
-    input::value(&bytes[at..at + 8])
+    let mut word = [0u8; 8];
+    word.copy_from_slice(&bytes[at..at + 8]);
+    usize::from_le_bytes(word)
 }
 
 // A state, whole.
@@ -272,7 +254,6 @@ fn write_state<W: Write>(to: &mut W, s: State) -> io::Result<()>
 {
     let scheme = s.scheme;
     let block = s.block;
-    let course = s.course;
     output::write_length(to, STATE)?;
     output::write_bytes(to, &scheme)?;
     write_block(to, &block)?;
@@ -283,7 +264,7 @@ fn write_state<W: Write>(to: &mut W, s: State) -> io::Result<()>
     output::write_register(to, s.register)?;
     output::write_count(to, s.mended)?;
     output::write_count(to, s.worst)?;
-    output::write_answer(to, stream::told(course))
+    output::write_answer(to, stream::told(s.course))
 }
 
 // The words of a block, in eight bytes each.

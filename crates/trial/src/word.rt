@@ -2,35 +2,39 @@
 ghost use Rattle.streams.specs.Streams.{LeavesRest, Grows};
 
 use crate::stop::Stop;
-use crate::{input, output};
+use crate::{Rooms, input, output};
+use answers::Told;
 use std::io;
 use std::io::{Read, Write};
+
+// What to do with a word.
+#[derive(Clone, Copy)]
+pub(crate) enum Job {
+    Encode,
+    Decode,
+}
 
 // Reads the fields of both jobs, code, word and out, and makes the call.
 pub(crate) fn serve<R: Read, W: Write>(
     from: &mut R,
     to: &mut W,
-    job: u8,
-    word: &mut [u8],
-    out: &mut [u8],
+    job: Job,
+    rooms: &mut Rooms,
 ) -> Result<(), Stop>
     ensures rest { LeavesRest (R.remaining from.old) (R.remaining from.new) }
     ensures grows { Grows (W.contents to.old) (W.contents to.new) }
 {
+    let Rooms {
+        first: word,
+        second: out,
+        ..
+    } = rooms;
     let code = input::read_byte(from)?;
     let n = input::read_list(from, word)?;
     let m = input::read_list(from, out)?;
-    call(to, job, code, &word[0..n], &mut out[0..m])
-}
-
-// The call, and its response.
-fn call<W: Write>(to: &mut W, job: u8, code: u8, word: &[u8], out: &mut [u8]) -> Result<(), Stop>
-    ensures grows { Grows (W.contents to.old) (W.contents to.new) }
-{
     match job {
-        1 => encode(to, code, word, out)?,
-        2 => decode(to, code, word, out)?,
-        _ => return Err(Stop::End),
+        Job::Encode => encode(to, code, &word[0..n], &mut out[0..m])?,
+        Job::Decode => decode(to, code, &word[0..n], &mut out[0..m])?,
     }
     Ok(())
 }
@@ -38,7 +42,7 @@ fn call<W: Write>(to: &mut W, job: u8, code: u8, word: &[u8], out: &mut [u8]) ->
 fn encode<W: Write>(to: &mut W, code: u8, word: &[u8], out: &mut [u8]) -> io::Result<()>
     ensures grows { Grows (W.contents to.old) (W.contents to.new) }
 {
-    let told = answers::of_written(encoder::encode(code, word, out));
+    let told = Told::from(encoder::encode(code, word, out));
     output::write_answer(to, told)?;
     output::write_list(to, out)
 }
@@ -47,8 +51,7 @@ fn decode<W: Write>(to: &mut W, code: u8, word: &[u8], out: &mut [u8]) -> io::Re
     ensures grows { Grows (W.contents to.old) (W.contents to.new) }
 {
     let decoded = decoder::decode(code, word, out);
-    let answer = decoded.answer;
-    let told = answers::of_decoded(answer);
+    let told = Told::from(decoded.answer);
     let places = decoded.places;
     output::write_answer(to, told)?;
     output::write_count(to, told.mended)?;

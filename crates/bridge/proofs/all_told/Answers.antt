@@ -4,4 +4,4 @@ use mathlib.Core.Path.{refl}
 use Rattle.bridge.proofs.all_told.Goals as goal
 
 pub returns : goal.returns
-returns c = refl
+returns c = rw c.from.ensures refl

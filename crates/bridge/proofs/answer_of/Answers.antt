@@ -4,4 +4,4 @@ use mathlib.Core.Path.{refl}
 use Rattle.bridge.proofs.answer_of.Goals as goal
 
 pub returns : goal.returns
-returns c = refl
+returns c = rw c.from.ensures refl

@@ -11,7 +11,7 @@ answer_of-requires c =
     let s = c.args in
     let call = c.decode-decoded in
     let few = few_decoded s.word.now s.out.now call.result call.new.out s.code call.ensures in
-    rw c.of_decoded.ensures (omega (arith, few.mended))
+    rw c.from.ensures (omega (arith, few.mended))
 
 pub returns : goal.returns
 returns c =
@@ -20,7 +20,7 @@ returns c =
     let made : DecodeCall s.code s.word.now s.out.now c.answer_of.result call.new.out call.result.places = record {
       answer = call.result;
       promise = call.ensures;
-      told = c.answer_of.ensures ∙ ap answer_of c.of_decoded.ensures;
+      told = c.answer_of.ensures ∙ ap answer_of c.from.ensures;
       list = refl;
     } in
     made

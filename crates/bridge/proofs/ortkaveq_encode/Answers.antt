@@ -9,7 +9,7 @@ use Rattle.bridge.proofs.ortkaveq_encode.Goals as goal
 pub answer_of-requires : goal.answer_of-requires
 answer_of-requires c =
     let few = few_written c.encode.result in
-    rw c.of_written.ensures (omega (arith, few.mended))
+    rw c.from.ensures (omega (arith, few.mended))
 
 pub returns : goal.returns
 returns c =
@@ -18,6 +18,6 @@ returns c =
     let made : EncodeCall s.code s.word.now s.out.now c.answer_of.result call.new.out = record {
       answer = call.result;
       promise = call.ensures;
-      told = c.answer_of.ensures ∙ ap answer_of c.of_written.ensures;
+      told = c.answer_of.ensures ∙ ap answer_of c.from.ensures;
     } in
     made

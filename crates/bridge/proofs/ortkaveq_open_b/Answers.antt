@@ -14,11 +14,11 @@ answer_of-requires c =
 pub returns : goal.returns
 returns c =
     let call = c.open_b-state in
-    let made : OpenBCall c.args.mode c.args.size c.args.scheme.now c.answer_of.result c.holding-bytes.result = record {
+    let made : OpenBCall c.args.mode c.args.size c.args.scheme.now c.answer_of.result c.hold.new.out = record {
       state = call.result;
       promise = call.ensures;
       told = c.answer_of.ensures ∙ ap answer_of c.told.ensures;
-      left = c.holding-bytes.ensures.0;
-      found = c.holding-bytes.ensures.1;
+      left = c.hold.ensures.0;
+      found = c.hold.ensures.1;
     } in
     made

@@ -11,7 +11,7 @@ all_told-requires c =
     let s = c.args in
     let call = c.receive_a-received in
     let few = few_received_a s.area.now call.result call.new.area s.mode s.i.now s.q.now call.ensures in
-    rw c.of_received_a.ensures (omega (arith, few.mended), omega (arith, few.protected), omega (arith, few.worst))
+    rw c.from.ensures (omega (arith, few.mended), omega (arith, few.protected), omega (arith, few.worst))
 
 pub returns : goal.returns
 returns c =
@@ -21,7 +21,7 @@ returns c =
     call.result.first call.result.second = record {
       answer = call.result;
       promise = call.ensures;
-      told = c.all_told.ensures ∙ ap received_of c.of_received_a.ensures;
+      told = c.all_told.ensures ∙ ap received_of c.from.ensures;
       first_list = refl;
       second_list = refl;
     } in

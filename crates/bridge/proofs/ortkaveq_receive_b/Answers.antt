@@ -12,7 +12,7 @@ all_told-requires c =
     let call = c.receive_b in
     let few = few_received_b s.area.now call.result call.new.area s.mode s.size s.scheme.now s.i.now s.q.now
     call.ensures in
-    rw c.of_received_b.ensures (omega (arith, few.mended), omega (arith, few.protected), omega (arith, few.worst))
+    rw c.from.ensures (omega (arith, few.mended), omega (arith, few.protected), omega (arith, few.worst))
 
 pub returns : goal.returns
 returns c =
@@ -21,6 +21,6 @@ returns c =
     let made : ReceiveBCall s.mode s.size s.scheme.now s.i.now s.q.now s.area.now c.all_told.result call.new.area = record {
       answer = call.result;
       promise = call.ensures;
-      told = c.all_told.ensures ∙ ap received_of c.of_received_b.ensures;
+      told = c.all_told.ensures ∙ ap received_of c.from.ensures;
     } in
     made

@@ -9,7 +9,7 @@ use Rattle.bridge.proofs.ortkaveq_send_b.Goals as goal
 pub answer_of-requires : goal.answer_of-requires
 answer_of-requires c =
     let few = few_written c.send_b.result in
-    rw c.of_written.ensures (omega (arith, few.mended))
+    rw c.from.ensures (omega (arith, few.mended))
 
 pub returns : goal.returns
 returns c =
@@ -18,6 +18,6 @@ returns c =
     let made : SendBCall s.mode s.frame.now s.scheme.now s.i.now s.q.now c.answer_of.result call.new.i call.new.q = record {
       answer = call.result;
       promise = call.ensures;
-      told = c.answer_of.ensures ∙ ap answer_of c.of_written.ensures;
+      told = c.answer_of.ensures ∙ ap answer_of c.from.ensures;
     } in
     made

@@ -9,21 +9,20 @@ use Rattle.payload_b.proofs.Plans.{plan_passes}
 use Rattle.bridge.specs.Calls.{needed_of}
 use Rattle.bridge.proofs.ortkaveq_symbols_b.Goals as goal
 
-pub overflow_cast-plan : goal.overflow_cast-plan
-overflow_cast-plan c =
-    let found = rw c.in-Passes.is at c.judged-verdict.ensures in
+pub overflow_cast-result : goal.overflow_cast-result
+overflow_cast-result c =
+    let found = c.in-Ok.ensures in
     record { fits = omega (arith, found.0.few, ap (λ (p : Plan). p.symbols) found.1) }
 
-pub returns-in-Passes : goal.returns-in-Passes
-returns-in-Passes c =
+pub returns-in-Ok : goal.returns-in-Ok
+returns-in-Ok c =
     let s = c.args in
-    let found = rw c.in-Passes.is at c.judged-verdict.ensures in
+    let found = c.in-Ok.ensures in
     let needed = symbols_for s.mode s.size s.scheme.now in
-    rw found.1 at c.so_many.ensures ∙ ap (λ (k : Checked Unit). needed_of k needed) (sym (plan_passes found.0 (passes tt)))
+    ap (λ (p : Plan). needed_of (passes tt) p.symbols) found.1 ∙ ap (λ (k : Checked Unit). needed_of k needed) (sym (plan_passes found.0 (passes tt)))
 
-pub returns-in-Fails : goal.returns-in-Fails
-returns-in-Fails c =
+pub returns-in-Err : goal.returns-in-Err
+returns-in-Err c =
     let s = c.args in
-    let found = rw c.in-Fails.is at c.judged-verdict.ensures in
     let needed = symbols_for s.mode s.size s.scheme.now in
-    rw c.of_refusal.ensures at c.none_needed.ensures ∙ ap (λ (k : Checked Unit). needed_of k needed) (sym (found (passes tt)))
+    rw c.from.ensures at c.none_needed.ensures ∙ ap (λ (k : Checked Unit). needed_of k needed) (sym (c.in-Err.ensures (passes tt)))

@@ -16,6 +16,6 @@ pub returns : goal.returns
 returns c =
     let n = length c.args.frame.now in
     let text = c.answered.ensures
-    ∙ ap (λ a. text_of (answer_lines n a)) (c.trip.ensures ∙ ap (λ (m : ℕ). trip_of m n) c.mode_for.ensures)
+    ∙ ap (λ a. text_of (answer_lines n a)) (c.from.ensures ∙ c.trip.ensures ∙ ap (λ (m : ℕ). trip_of m n) c.mode_for.ensures)
     ∙ ap text_of (lines_are n) in
     record { value = text; counted = rw text (counted_text (lines_of n) (lines_short n)) }

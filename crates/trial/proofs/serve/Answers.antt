@@ -29,3 +29,6 @@ returns-in-9-clause-rest g c = search (rules, steps)
 
 pub returns-in-16-clause-rest : goal.returns-in-16-clause-rest
 returns-in-16-clause-rest g c = search (rules, steps)
+
+pub returns-in-2-clause-rest : goal.returns-in-2-clause-rest
+returns-in-2-clause-rest g c = search (rules, steps)

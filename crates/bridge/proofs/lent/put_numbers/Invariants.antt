@@ -2,13 +2,10 @@
 -- Assumes nothing.
 use mathlib.Core.Path.{◌≡◌}
 use mathlib.Core.List.{◌++◌}
-use Prim.Native.Nat.{◌*◌, ◌-◌, ◌≤◌}
-use lib.ListN.{length, get_or, drop}
+use Prim.Native.Nat.{◌*◌}
+use lib.ListN.{get_or, drop}
 use Rattle.bridge.specs.Streams.{spread}
 use Rattle.bridge.proofs.lent.put_numbers.Given as goal
 
 abbrev pub invariant-loop-k : goal.invariant-loop-k
-invariant-loop-k l = (l.k ≤ 17) × (length l.out ≡ 352) × (l.out ≡ spread l.k (λ j. get_or l.numbers j 0) ++ drop (8 * l.k) l.initial.out)
-
-abbrev pub decreases-loop-k : goal.decreases-loop-k
-decreases-loop-k l = 17 - l.k
+invariant-loop-k l = l.out ≡ spread l.k (λ j. get_or l.numbers j 0) ++ drop (8 * l.k) l.initial.out

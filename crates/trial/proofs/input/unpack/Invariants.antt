@@ -5,8 +5,4 @@ use Rattle.trial.proofs.input.unpack.Given as goal
 
 abbrev pub invariant-loop-i : goal.invariant-loop-i
 invariant-loop-i l =
-    (l.i ≤ length l.initial.levels)
-    × (take l.i l.levels ++ levels_in (length l.initial.levels - l.i) (drop (l.i * 2) l.bytes) ≡ levels_in (length l.initial.levels) l.bytes)
-
-abbrev pub decreases-loop-i : goal.decreases-loop-i
-decreases-loop-i l = length l.initial.levels - l.i
+    (take l.i l.levels ++ levels_in (length l.initial.levels - l.i) (drop (l.i * 2) l.bytes) ≡ levels_in (length l.initial.levels) l.bytes)

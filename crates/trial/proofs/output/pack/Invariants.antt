@@ -5,7 +5,4 @@ use Rattle.trial.proofs.Packing.{numbers}
 use Rattle.trial.proofs.output.pack.Given as goal
 
 abbrev pub invariant-loop-i : goal.invariant-loop-i
-invariant-loop-i l = (l.i ≤ length l.levels) × (take (l.i * 2) l.bytes ≡ pairs (take l.i (numbers l.levels)))
-
-abbrev pub decreases-loop-i : goal.decreases-loop-i
-decreases-loop-i l = length l.levels - l.i
+invariant-loop-i l = take (l.i * 2) l.bytes ≡ pairs (take l.i (numbers l.levels))

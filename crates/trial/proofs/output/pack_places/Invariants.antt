@@ -4,7 +4,4 @@ use Rattle.trial.specs.Format.{pairs}
 use Rattle.trial.proofs.output.pack_places.Given as goal
 
 abbrev pub invariant-loop-i : goal.invariant-loop-i
-invariant-loop-i l = (l.i ≤ length l.places) × (take (l.i * 2) l.bytes ≡ pairs (take l.i l.places))
-
-abbrev pub decreases-loop-i : goal.decreases-loop-i
-decreases-loop-i l = length l.places - l.i
+invariant-loop-i l = take (l.i * 2) l.bytes ≡ pairs (take l.i l.places)

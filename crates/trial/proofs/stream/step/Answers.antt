@@ -4,18 +4,18 @@ use Rattle.streams.specs.Streams.{Grows}
 use Rattle.streams.proofs.Writing.{grows_trans, front_grows}
 use Rattle.trial.proofs.Streaming.{steps}
 use Rattle.trial.proofs.stream.step.Goals as goal
-use Rattle.trial.proofs.stream.step.Goals.{in-Nothing+in_ok-write_received-in-Nothing+in_ok-write_list-in-Nothing, in-Of+in_ok-write_received-in-Of+in_ok-write_state-in-Of}
+use Rattle.trial.proofs.stream.step.Goals.{in-None+in_ok-write_received-in-None+in_ok-write_list-in-None, in-Some+in_ok-write_received-in-Some+in_ok-write_state-in-Some}
 
-pub returns-in_err-write_list-in-Nothing : goal.returns-in_err-write_list-in-Nothing
-returns-in_err-write_list-in-Nothing g c = search (rules, steps)
+pub returns-in_err-write_list-in-None : goal.returns-in_err-write_list-in-None
+returns-in_err-write_list-in-None g c = search (rules, steps)
 
-pub returns-in_err-write_state-in-Of : goal.returns-in_err-write_state-in-Of
-returns-in_err-write_state-in-Of g c = search (rules, steps)
+pub returns-in_err-write_state-in-Some : goal.returns-in_err-write_state-in-Some
+returns-in_err-write_state-in-Some g c = search (rules, steps)
 
 pub returns : goal.returns
 returns g c =
-    let before : Grows (g.W.Write.contents c.args.to.now) (g.W.Write.contents c.match-said.to) = elim c.match-said.branch [
-      | in-Nothing+in_ok-write_received-in-Nothing+in_ok-write_list-in-Nothing w ↦ rw w.to-is (search (rules, steps))
-      | in-Of+in_ok-write_received-in-Of+in_ok-write_state-in-Of w ↦ rw w.to-is (search (rules, steps))
+    let before : Grows (g.W.Write.contents c.args.to.now) (g.W.Write.contents c.match-course_of.to) = elim c.match-course_of.branch [
+      | in-None+in_ok-write_received-in-None+in_ok-write_list-in-None w ↦ rw w.to-is (search (rules, steps))
+      | in-Some+in_ok-write_received-in-Some+in_ok-write_state-in-Some w ↦ rw w.to-is (search (rules, steps))
     ] in
     record { grows = grows_trans _ _ _ before (front_grows _ _ _ c.write_list-2.ensures.front) }

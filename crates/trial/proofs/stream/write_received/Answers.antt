@@ -8,20 +8,20 @@ use Rattle.trial.proofs.stream.write_received.Goals as goal
 
 pub returns-in_err-write_answer-clause-front : goal.returns-in_err-write_answer-clause-front
 returns-in_err-write_answer-clause-front g c =
-    let told = c.of_received_b-told.result in
-    subst (AppendsFront _ _) (ap received_bytes c.of_received_b-told.ensures)
+    let told = c.from-told.result in
+    subst (AppendsFront _ _) (ap received_bytes c.from-told.ensures)
     (front_first _ _ _ (little_endian 8 told.worst) (front_first _ _ (head_bytes told) (little_endian 8 told.mended) c.in_err-write_answer.ensures.front))
 
 pub returns-in_err-write_count-clause-front : goal.returns-in_err-write_count-clause-front
 returns-in_err-write_count-clause-front g c =
-    let told = c.of_received_b-told.result in
-    subst (AppendsFront _ _) (ap received_bytes c.of_received_b-told.ensures)
+    let told = c.from-told.result in
+    subst (AppendsFront _ _) (ap received_bytes c.from-told.ensures)
     (front_first _ _ _ (little_endian 8 told.worst)
     (front_then _ _ _ (head_bytes told) _ c.in_ok-write_answer.ensures.ok c.in_err-write_count.ensures.front))
 
 pub returns-clause-front : goal.returns-clause-front
 returns-clause-front g c =
-    let told = c.of_received_b-told.result in
-    subst (AppendsFront _ _) (ap received_bytes c.of_received_b-told.ensures)
+    let told = c.from-told.result in
+    subst (AppendsFront _ _) (ap received_bytes c.from-told.ensures)
     (front_then _ _ _ _ (little_endian 8 told.worst)
     (Appends-trans _ _ _ (head_bytes told) _ c.in_ok-write_answer.ensures.ok c.in_ok-write_count.ensures.ok) c.write_count-2.ensures.front)

@@ -9,5 +9,14 @@ returns-in_err-n-clause-rest g c = search (rules, steps)
 pub returns-in_err-m-clause-rest : goal.returns-in_err-m-clause-rest
 returns-in_err-m-clause-rest g c = search (rules, steps)
 
-pub returns-clause-rest : goal.returns-clause-rest
-returns-clause-rest g c = search (rules, steps)
+pub returns-in_err-encode-in-Encode-clause-rest : goal.returns-in_err-encode-in-Encode-clause-rest
+returns-in_err-encode-in-Encode-clause-rest g c = search (rules, steps)
+
+pub returns-in_err-decode-in-Decode-clause-rest : goal.returns-in_err-decode-in-Decode-clause-rest
+returns-in_err-decode-in-Decode-clause-rest g c = search (rules, steps)
+
+pub returns-in_ok-encode-in-Encode-clause-rest : goal.returns-in_ok-encode-in-Encode-clause-rest
+returns-in_ok-encode-in-Encode-clause-rest g c = search (rules, steps)
+
+pub returns-in_ok-decode-in-Decode-clause-rest : goal.returns-in_ok-decode-in-Decode-clause-rest
+returns-in_ok-decode-in-Decode-clause-rest g c = search (rules, steps)

@@ -1,4 +1,4 @@
--- `bridge::lent::held` meets its contract: the parts of what moves, each from its number.
+-- `bridge::lent::moving_in` meets its contract: the parts of what moves, each from its number.
 -- Assumes nothing.
 use mathlib.Core.Path.{◌≡◌, sym}
 use native.Mathlib.Omega.{arith}
@@ -6,7 +6,7 @@ use lib.ListN.{length}
 use Rattle.bridge.proofs.Holds.{first_eight}
 use Rattle.bridge.proofs.Holdings.{of_parts}
 use borrow.Author.Rules.{rules}
-use Rattle.bridge.proofs.lent.held.Goals as goal
+use Rattle.bridge.proofs.lent.moving_in.Goals as goal
 
 pub returns : goal.returns
 returns c =
