@@ -2,13 +2,13 @@
 -- Assumes nothing.
 use mathlib.Core.Path.{◌≡◌, refl, sym, ap, ap₂, ◌∙◌, subst}
 use mathlib.Core.List.{List, [], ◌∷◌, ◌++◌, append-nil, append_assoc, zip_with}
-use Prim.Native.Nat.{ℕ, suc, ◌+◌, ◌-◌, ◌≤◌, ◌<◌}
+use Prim.Native.Nat.{ℕ, suc, ◌+◌, ◌-◌, ◌/◌, ◌%◌, ◌^◌, ◌≤◌, ◌<◌}
 use native.Mathlib.Nat.{sub-zero}
 use native.Mathlib.Numerals.{add-one}
 use native.Mathlib.Omega.{arith}
 use borrow.Rule.Slice.PartMut.{put_mid, same_len_mid}
 use lib.Bits.{bit_xor, xor_comm}
-use lib.ListN.{length, get_or, set, take, drop, length-append, drop_of_length-le, take-append-drop}
+use lib.ListN.{length, get_or, set, take, drop, length-set, length-append, drop_of_length-le, take-append-drop}
 use lib.Seq.{take_at, drop_at, drop-drop, take_all, take-suc-set, drop-set-lt, drop-cons, set_split, length-take-le}
 use Rattle.bits.specs.Words.{digits}
 use Rattle.bits.proofs.Copies.{part_long}
@@ -34,6 +34,46 @@ added_more ds l i d h hd e =
 pub added_all : (ds l : List ℕ) (i : ℕ) → length l ≤ i → adding ds l i ≡ l
 unfolding zip_with
 added_all ds l i h = rw (take_all i l h, drop_of_length-le l h) (append-nil l)
+
+-- the same, one digit after the other, from index i; on digits written out it computes to the stores themselves
+abbrev added : List ℕ → ℕ → List ℕ → List ℕ
+added l i [] = l
+added l i (d ∷ ds) = added (set l i (bit_xor (get_or l i 0) d)) (suc i) ds
+
+-- up to the end
+added_to_end : (ds l : List ℕ) (i : ℕ) → i + length ds ≡ length l → added l i ds ≡ take i l ++ zip_with bit_xor (drop i l) ds
+unfolding zip_with
+added_to_end [] l i e =
+    let h : length l ≤ i = omega arith in
+    rw (take_all i l h, drop_of_length-le l h) (sym (append-nil l))
+added_to_end (d ∷ ds) l i e =
+    let b = bit_xor (get_or l i 0) d in
+    let h : i < length l = omega arith in
+    added_to_end ds (set l i b) (suc i) (omega (arith, length-set l i b))
+    ∙ ap₂ (λ (u v : List ℕ). u ++ zip_with bit_xor v ds) (take-suc-set l i b h) (drop-set-lt (suc i) l i b (omega arith))
+    ∙ append_assoc (take i l) (b ∷ []) (zip_with bit_xor (drop (suc i) l) ds)
+    ∙ ap (λ (v : List ℕ). take i l ++ zip_with bit_xor v (d ∷ ds)) (sym (drop-cons l i 0 h))
+
+-- the eight of a byte
+abbrev pub eight_of : ℕ → List ℕ
+eight_of k = k / 128 ∷ k / 64 % 2 ∷ k / 32 % 2 ∷ k / 16 % 2 ∷ k / 8 % 2 ∷ k / 4 % 2 ∷ k / 2 % 2 ∷ k % 2 ∷ []
+
+eight_digits : (k : ℕ) → k < 256 → eight_of k ≡ digits 8 k
+unfolding digits
+eight_digits k h =
+    let first : k / 2 ^ 7 % 2 ≡ k / 128 = omega arith in
+    let last : k / 2 ^ 0 % 2 ≡ k % 2 = omega arith in
+    rw (first, last)
+
+pub eight_added : (k : ℕ) (l : List ℕ) → k < 256 → length l ≡ 8 → added l 0 (eight_of k) ≡ zip_with bit_xor l (digits 8 k)
+eight_added k l h long = added_to_end (eight_of k) l 0 (sym long) ∙ ap (zip_with bit_xor l) (eight_digits k h)
+
+-- the eight of a byte, where the last two are read apart
+pub eight_added_by : (k : ℕ) (l : List ℕ) (x y : ℕ) → k < 256 → length l ≡ 8
+    → let six = added l 0 (k / 128 ∷ k / 64 % 2 ∷ k / 32 % 2 ∷ k / 16 % 2 ∷ k / 8 % 2 ∷ k / 4 % 2 ∷ []) in
+    let seven = set six 6 (bit_xor x (k / 2 % 2)) in
+    x ≡ get_or six 6 0 → y ≡ get_or seven 7 0 → set seven 7 (bit_xor y (k % 2)) ≡ zip_with bit_xor l (digits 8 k)
+eight_added_by k l x y h long ex ey = rw (ey, ex) (eight_added k l h long)
 
 -- ---- turns
 

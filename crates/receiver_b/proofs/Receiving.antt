@@ -11,7 +11,7 @@ use lib.IntN.{ℤ}
 use lib.ListN.{length, take, drop, replicate, length-append, take-append-drop}
 use lib.Seq.{take_at, length-take-le}
 use Rattle.ground.proofs.Firsts.{first}
-use Rattle.std.specs.Prelude.{None, Result, Err}
+use Rattle.std.specs.Prelude.{None, Result, Ok, Err}
 use Rattle.packed.specs.Packed.{bits_from, bits512, padded_to}
 use Rattle.packed.proofs.Walks.{length_512}
 use Rattle.points.specs.declared.Point.{Point}
@@ -20,7 +20,7 @@ use Rattle.symbols.specs.Grids.{points_from, received}
 use Rattle.payload_b.specs.CodedB.{block_bytes, block_bits, blocks_in, bits_for, symbols_for}
 use Rattle.symbols.specs.Schemes.{Scheme, sum_of, repeated, labelled, stray_in}
 use Rattle.symbols.specs.ByScheme.{read_by, symbol_read}
-use Rattle.answers.specs.Answers.{accepted, counted_b}
+use Rattle.answers.specs.Answers.{ReceivedB, accepted, counted_b}
 use Rattle.answers.specs.Checks.{passes}
 use Rattle.payload_b.specs.PromiseB.{bits_received, GoesB, ReceivesB}
 use Rattle.payload_b.specs.PlanB.{Sendable, plan_of}
@@ -113,6 +113,15 @@ none_stray {scheme} good m is qs all =
 
 -- ---- at the end
 
+-- what is answered, and what is left in the area: in a refusal the frame's bytes are zero
+abbrev pub settled_b : Result Stream ℕ → ReceivedB
+settled_b (Ok end) = counted_b end.tally.mended end.tally.worst
+settled_b (Err done) = Err (Uncorrectable done)
+
+abbrev pub settled_area : ℕ → List ℕ → Result Stream ℕ → List ℕ
+settled_area n area (Ok end) = area
+settled_area n area (Err done) = replicate n 0 ++ drop n area
+
 module _ {mode n : ℕ} {scheme : List ℕ} (plan : Sendable mode n scheme) (is qs : List ℤ) where
   -- the bits of all OFDM symbols
   abbrev all : List ℕ
@@ -178,3 +187,10 @@ module _ {mode n : ℕ} {scheme : List ℕ} (plan : Sendable mode n scheme) (is 
         tells = refl;
         left = ap (λ (w : List ℕ). replicate n 0 ++ w) (rw (← whole_blocks mode n plan.whole) at h.beyond);
       })
+
+  -- so the answer at the end is right, whichever it is
+  pub settled_b_lem : (area area' : List ℕ) (r : Result Stream ℕ)
+      → TakesIn mode (blocks_in mode n) all area (bits512 began.block) began.tally area' r
+      → ReceivesB (passes tt) mode n (bits_received mode n scheme is qs) area (settled_b r) (settled_area n area' r)
+  settled_b_lem area area' (Ok end) on = all_mended on
+  settled_b_lem area area' (Err done) on = one_hopeless on

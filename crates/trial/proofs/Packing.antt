@@ -91,6 +91,21 @@ written_none old levels rest e = record { front = []; split = sym e; writes = Ap
 bytes_append : (front part : List ℤ) → level_bytes (front ++ part) ≡ level_bytes front ++ level_bytes part
 bytes_append front part = ap pairs (map-append (of_z w16) front part) ∙ packed_append (numbers front) (numbers part)
 
+-- the bytes of the levels before j are those of the levels before i, and then those of the part between
+pub part_behind : (levels : List ℤ) (i j : ℕ) → i ≤ j → level_bytes (take j levels) ≡ level_bytes (take i levels) ++ level_bytes (take (j - i) (drop i levels))
+part_behind levels i j h =
+    let e : i + (j - i) ≡ j = omega arith in
+    ap (λ (n : ℕ). level_bytes (take n levels)) (sym e) ∙ ap level_bytes (take-add i (j - i) levels)
+    ∙ bytes_append (take i levels) (take (j - i) (drop i levels))
+
+-- the bytes of the levels are those of the levels before i, of the part up to j, and of the levels from j on
+pub parts_left : (levels : List ℤ) (i j : ℕ) → i ≤ j
+    → level_bytes levels ≡ level_bytes (take i levels) ++ (level_bytes (take (j - i) (drop i levels)) ++ level_bytes (drop j levels))
+parts_left levels i j h =
+    ap level_bytes (sym (take-append-drop j levels)) ∙ bytes_append (take j levels) (drop j levels)
+    ∙ ap (λ (bs : List ℕ). bs ++ level_bytes (drop j levels)) (part_behind levels i j h)
+    ∙ append_assoc (level_bytes (take i levels)) (level_bytes (take (j - i) (drop i levels))) (level_bytes (drop j levels))
+
 module _ (old now new : Option (List ℕ)) (levels rest part after : List ℤ) (w : Written old now levels rest) (next : rest ≡ part ++ after) where
   whole : levels ≡ w.front ++ (part ++ after)
   whole = w.split ∙ ap (λ (ls : List ℤ). w.front ++ ls) next
