@@ -1,9 +1,10 @@
--- The tables of the three codes hold the remainders by their generators, and machine words, by computation.
+-- The tables of the three codes hold the remainders by their generators, and machine words, by computation; so a sound code that has a number has its table.
 -- Assumes nothing.
 use mathlib.Core.Bool.{Bool, true, false}
 use mathlib.Core.List.{List, ◌++◌}
 use mathlib.Core.Logic.{by_cases}
-use Prim.Native.Nat.{ℕ, ◌+◌, ◌*◌, ◌/◌, ◌%◌, ◌^◌, ◌<◌}
+use mathlib.Core.Path.{◌≡◌, sym, subst}
+use Prim.Native.Nat.{ℕ, ◌+◌, ◌-◌, ◌*◌, ◌/◌, ◌%◌, ◌^◌, ◌<◌}
 use native.Mathlib.Decide.{dec_lt}
 use native.Mathlib.Omega.{arith}
 use lib.Dec.{T, eqb, ltb, ltb→lt}
@@ -13,10 +14,14 @@ use Rattle.std.specs.Prelude.{cond}
 use Rattle.ground.proofs.Tests.{all, all_equal, every, every_at}
 use Rattle.bits.specs.Words.{digits}
 use Rattle.bits.specs.Remainders.{reduced, step, remainder, remainder_from}
-use Rattle.bch.specs.Held.{table_of}
+use Rattle.answers.specs.Checks.{passes}
+use Rattle.bch.specs.Codes.{Code, known, named}
+use Rattle.bch.specs.Held.{Sound, code_of, table_of, Tabled}
+use Rattle.bch.specs.Promise.{checked}
 use Rattle.bch.specs.Registers.{entry_at, Remainders}
 use Rattle.bch.specs.declared.code.Held.{Held}
 use Rattle.bch.specs.declared.tables.TheConstants.{TABLE1, TABLE2, TABLE3}
+use Rattle.bch.proofs.Verdicts.{of_three, passed}
 
 -- the remainder by g that stands at e
 abbrev entry_of : ℕ → ℕ → ℕ
@@ -67,3 +72,18 @@ unfolding table_of
 table_fits h j =
     let P : List ℕ → Type 0 = λ v. get_or v j 0 < 2 ^ 64 in
     one_of P (eqb h.t 4) (fits TABLE1 tt j) (one_of P (eqb h.t 8) (fits TABLE2 tt j) (fits TABLE3 tt j))
+
+-- ---- a code that has a number has its table
+
+-- the table by how many the code mends, and the generator at the top of 192 digits
+abbrev RuleOf : Code → Type 0
+RuleOf c = Remainders (c.generator * 2 ^ (192 - (c.n - c.k))) (cond (eqb c.t 4) TABLE1 (cond (eqb c.t 8) TABLE2 TABLE3))
+
+pub tabled : (number : ℕ) (h : Held) → Sound h → named number ≡ known (code_of h) → Tabled h
+unfolding table_of
+tabled number h sound code =
+    subst (λ (g : ℕ). Remainders g (table_of h)) (sym sound.exact) (of_three RuleOf rule1 rule2 rule3 number (code_of h) code)
+
+-- as it has where the checks pass
+pub judged_tabled : (number : ℕ) (h : Held) → Sound h → (size : Code → ℕ) (word out : List ℕ) → checked number size word out ≡ passes (code_of h) → Tabled h
+judged_tabled number h sound size word out e = tabled number h sound (passed (named number) size word out e)

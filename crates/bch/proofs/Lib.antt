@@ -4,6 +4,8 @@ pub mod Roots
 pub mod Triples
 pub mod Tops
 pub mod Nibbles
+pub mod Eights
+pub mod Filling
 pub mod Uniqueness
 pub mod Verdicts
 pub mod Entries

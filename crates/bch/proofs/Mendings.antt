@@ -5,15 +5,13 @@ use mathlib.Core.Path.{◌≡◌, sym, ap, ap₂, ◌∙◌}
 use mathlib.Core.Logic.{inl, inr}
 use mathlib.Core.List.{List, [], ◌++◌}
 use Prim.Native.Nat.{ℕ, ◌-◌, ◌≤◌, ◌<◌}
-use native.Mathlib.Decide.{ℕ_discrete}
 use native.Mathlib.Omega.{arith}
-use borrow.Author.Tests.{eq-eqb, ne_eqb}
 use lib.ListN.{length, take, drop, length-append}
 use lib.Seq.{take_at}
 use Rattle.bits.specs.Words.{Bits, digits, differ}
 use Rattle.bits.specs.Places.{places}
 use Rattle.bits.specs.Remainders.{remainder}
-use Rattle.bch.specs.Codes.{Code, known, unknown, named, code1, code2, code3, encoded, Codeword, Within}
+use Rattle.bch.specs.Codes.{Code, known, named, encoded, Codeword, Within}
 use Rattle.answers.specs.Answers.{accepted, of_decoded, ToldWord, of_word, accepted_word}
 use Rattle.answers.specs.Checks.{passes}
 use Rattle.bch.specs.Promise.{Decodes, Decoding}
@@ -23,7 +21,7 @@ use Rattle.answers.specs.declared.DecodedWord.{DecodedWord}
 use Rattle.bits.proofs.Digits.{bits_append, none_bad, length_digits, digits_bits}
 use Rattle.bits.proofs.Distances.{differ_self}
 use Rattle.bits.proofs.Placing.{places_self}
-use Rattle.bch.proofs.Verdicts.{all_pass}
+use Rattle.bch.proofs.Verdicts.{all_pass, of_three}
 use Rattle.bch.proofs.Generators.{rooted1, rooted2, rooted3}
 use Rattle.bch.proofs.Uniqueness.{unique}
 use Rattle.bch.proofs.Listings.{Names, names}
@@ -45,19 +43,7 @@ encoded_codeword {c} rooted m bits long =
 -- ---- the three codes by their numbers
 
 rooted_of : (number : ℕ) (c : Code) → named number ≡ known c → Rooted c
-rooted_of number c e = go (ℕ_discrete number 1) (ℕ_discrete number 2) (ℕ_discrete number 3)
-  where
-    is : (d : Code) → known d ≡ known c → Rooted d → Rooted c
-    is d s rooted = let same : d ≡ c = cc in rw same at rooted
-
-    go : Dec (number ≡ 1) → Dec (number ≡ 2) → Dec (number ≡ 3) → Rooted c
-    go (yes h) _ _ = is code1 (rw (eq-eqb number 1 h) at e) rooted1
-    go (no n1) (yes h) _ = is code2 (rw (ne_eqb number 1 n1, eq-eqb number 2 h) at e) rooted2
-    go (no n1) (no n2) (yes h) = is code3 (rw (ne_eqb number 1 n1, ne_eqb number 2 n2, eq-eqb number 3 h) at e) rooted3
-    go (no n1) (no n2) (no n3) =
-        let s : unknown ≡ known c = rw (ne_eqb number 1 n1, ne_eqb number 2 n2, ne_eqb number 3 n3) at e in
-        let z : ◌≡◌ {A = ℕ} 0 1 = cc in
-        absurd (omega arith)
+rooted_of = of_three Rooted rooted1 rooted2 rooted3
 
 -- so what stands above the codes needs a code's number alone
 module _ (number : ℕ) {c : Code} (code : named number ≡ known c) where

@@ -7,24 +7,22 @@ use native.Mathlib.Omega.{arith}
 use lib.Pow.{shr-shr}
 use lib.Dec.{T, leb, eqb, leb→le, eqb→eq}
 use Rattle.bits.specs.Words.{digits}
-use Rattle.bch.specs.Registers.{tops, whole, Remainders}
+use Rattle.bch.specs.Registers.{tops, whole}
 use Rattle.bits.specs.Remainders.{remainder}
-use Rattle.bch.specs.Held.{Rooted, Sound, code_of, table_of}
+use Rattle.bch.specs.Held.{Rooted, Sound, code_of}
 use Rattle.bch.specs.declared.code.Held.{Held}
 use Rattle.bits.proofs.Remainders.{remainder_scaled}
 use Rattle.bch.proofs.Tops.{digits-tops}
 
 pub sound : (h : Held) → Rooted (code_of h) → T (leb (h.n - h.k) 192) → T (leb h.n 508) → T (leb h.t 16)
-    → T (eqb (h.k % 8) 0) → T (eqb (whole h.generator) ((code_of h).generator * 2 ^ (192 - (h.n - h.k))))
-    → Remainders (whole h.generator) (table_of h) → Sound h
-sound h rooted narrow short few bytes exact table = record {
+    → T (eqb (h.k % 8) 0) → T (eqb (whole h.generator) ((code_of h).generator * 2 ^ (192 - (h.n - h.k)))) → Sound h
+sound h rooted narrow short few bytes exact = record {
   rooted = rooted;
   narrow = leb→le (h.n - h.k) 192 narrow;
   short = leb→le h.n 508 short;
   few = leb→le h.t 16 few;
   bytes = eqb→eq (h.k % 8) 0 bytes;
   exact = eqb→eq (whole h.generator) ((code_of h).generator * 2 ^ (192 - (h.n - h.k))) exact;
-  table = table;
 }
 
 -- at the top of 192 digits the generator has its highest digit behind the register

@@ -25,11 +25,7 @@ pub record Rooted (c : Code) : Type 0 where
 abbrev pub code_of : Held → Code
 code_of h = record { n = h.n; k = h.k; t = h.t; generator = whole h.generator / 2 ^ (192 - (h.n - h.k)) }
 
--- its table of remainders; no two of the three codes mend as many
-unfoldable pub table_of : Held → List ℕ
-table_of h = cond (eqb h.t 4) TABLE1 (cond (eqb h.t 8) TABLE2 TABLE3)
-
--- what is known of a code that is held, its information whole bytes, and its table; it is one of three, so all of this is computed
+-- what is known of a code that is held, its information whole bytes; it is one of three, so all of this is computed
 pub record Sound (h : Held) : Type 0 where
   pub rooted : Rooted (code_of h)
   pub narrow : h.n - h.k ≤ 192
@@ -37,7 +33,14 @@ pub record Sound (h : Held) : Type 0 where
   pub few : h.t ≤ 16
   pub bytes : h.k % 8 ≡ 0
   pub exact : whole h.generator ≡ (code_of h).generator * 2 ^ (192 - (h.n - h.k))
-  pub table : Remainders (whole h.generator) (table_of h)
+
+-- its table of remainders; no two of the three codes mend as many
+unfoldable pub table_of : Held → List ℕ
+table_of h = cond (eqb h.t 4) TABLE1 (cond (eqb h.t 8) TABLE2 TABLE3)
+
+-- that is the table of its generator: so it is for a sound code that has a number (bch/proofs/Entries: `tabled`)
+abbrev pub Tabled : Held → Type 0
+Tabled h = Remainders (whole h.generator) (table_of h)
 
 -- the code of a number is held, or there is none
 abbrev pub Holds : ℕ → Option Held → Type 0

@@ -2,6 +2,7 @@
 -- The promise of encode and decode rests on nothing here: it is what the jobs and what they stand on promise one another.
 -- Assumes nothing.
 use Rattle.std.specs.Prelude.{◌≡◌, List, [], ◌∷◌, ◌++◌, ℕ, zero, suc, ◌+◌, ◌*◌, ◌/◌, ◌%◌, ◌^◌, ◌<◌, get_or, replicate}
+use Rattle.std.specs.Int.Bits.{bit_xor}
 use Rattle.bits.specs.Words.{digits}
 use Rattle.bits.specs.Remainders.{remainder}
 use Rattle.bch.specs.declared.register.Register.{Register}
@@ -23,6 +24,14 @@ at_top (b ∷ bs) = b * 2 ^ 191 + at_top bs / 2
 -- the generator that a register holds without its highest digit
 abbrev pub whole : Register → ℕ
 whole g = 2 ^ 192 + contents g
+
+-- the sum of those of four numbers whose digit in i is 1, that of a the lowest
+unfoldable pub chosen : ℕ → ℕ → ℕ → ℕ → ℕ → ℕ
+chosen i a b c d = bit_xor (i / 8 % 2 * d) (bit_xor (i / 4 % 2 * c) (bit_xor (i / 2 % 2 * b) (i % 2 * a)))
+
+-- a part of a table: at each i below 16 the remainder by g of the four digits of i with k zeros behind
+abbrev pub Sixteens : ℕ → ℕ → List Register → Type 0
+Sixteens g k table = (i : ℕ) (z : Register) → i < 16 → contents (get_or table i z) ≡ remainder 192 g (digits 4 i ++ replicate k 0)
 
 -- ---- a table of remainders: 64 entries of 192 digits, the high machine words of all of them first, then the middle ones, then the low ones
 

@@ -40,7 +40,7 @@ half k from table test v l hv hl =
     let row = all_at 16 (row_right k from table) test v hv in
     ap element_of (all_equal 16 (λ l. get_or table (from + v * 16 + l) 0) (worth k v) row l hl) ∙ of_horner 0 _ _ ∙ rw (of_power, of_0)
 
-digit_values : (table : List ℕ) → T (half_right 0 0 table) → T (half_right 4 256 table) → DigitValues table
+pub digit_values : (table : List ℕ) → T (half_right 0 0 table) → T (half_right 4 256 table) → DigitValues table
 digit_values table low high = record { low = half 0 0 table low; high = half 4 256 table high }
 
 pub values_are : DigitValues DIGIT_VALUES

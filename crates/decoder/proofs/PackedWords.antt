@@ -18,9 +18,9 @@ use Rattle.remainders.specs.Taking.{leftover_by}
 use Rattle.remainders.proofs.Windows.{at_top_zeros}
 use Rattle.remainders.proofs.Leftovers.{leftover_by_lem, table_narrowed}
 use Rattle.bch.specs.Registers.{whole, at_top}
-use Rattle.bch.specs.Held.{Sound, table_of}
+use Rattle.bch.specs.Held.{Sound, table_of, Tabled}
 use Rattle.bch.specs.declared.code.Held.{Held}
-use Rattle.decoder.specs.Candidates.{leftover, word_of, Clear, below_of}
+use Rattle.decoder.specs.Candidates.{leftover, word_of, Clear, below_of, Ready}
 use Rattle.decoder.proofs.Attempts.{Neighbour, neighbour}
 
 -- ---- zeros behind
@@ -99,11 +99,15 @@ module _ {h : Held} (sound : Sound h) (words : List ℕ) (clear : Clear h words)
 
 -- ---- what the table gives
 
+-- a code's own
+pub ready : {h : Held} → Sound h → Tabled h → Ready h (table_of h)
+ready sound rule = record { sound = sound; rule = table_narrowed sound rule }
+
 -- it is what is left of the word
-pub left_by : {h : Held} → Sound h → (words : List ℕ) → Clear h words
-    → leftover_by (take (64 * suc (below_of h)) (table_of h)) h.k words ≡ leftover h (word_of h words)
+pub left_by : {h : Held} {table : List ℕ} → Ready h table → (words : List ℕ) → Clear h words
+    → leftover_by (take (64 * suc (below_of h)) table) h.k words ≡ leftover h (word_of h words)
 unfolding leftover
-left_by {h} sound words clear =
-    leftover_by_lem (whole h.generator) (take (64 * suc (below_of h)) (table_of h)) words h.k (table_narrowed sound)
-    (degree_192 sound) sound.bytes (omega (arith, sound.rooted.order, sound.short))
+left_by {h} {table} ready words clear =
+    let sound = ready.sound in
+    leftover_by_lem (whole h.generator) (take (64 * suc (below_of h)) table) words h.k ready.rule (degree_192 sound) sound.bytes (omega (arith, sound.rooted.order, sound.short))
     ∙ ap₂ (λ (m : List ℕ) (x : ℕ). bit_xor (remainder 192 (whole h.generator) m) x) (information_there sound words clear) (behind_left sound words clear)

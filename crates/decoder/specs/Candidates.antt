@@ -1,16 +1,16 @@
 -- The remainder of a whole word, and what is tried to mend it.
 -- The promise of decode rests on nothing here: it is what the private functions promise one another.
 -- Assumes nothing.
-use Rattle.std.specs.Prelude.{◌≡◌, List, ℕ, ◌-◌, ◌/◌, ◌≤◌, length, take, drop, replicate, Option, Some, None, Ok}
+use Rattle.std.specs.Prelude.{◌≡◌, List, ℕ, suc, ◌-◌, ◌*◌, ◌/◌, ◌≤◌, length, take, drop, replicate, Option, Some, None, Ok}
 use Rattle.std.specs.Int.Bits.{bit_xor}
 use Rattle.bits.specs.Words.{Bits, differ}
 use Rattle.bits.specs.Places.{places}
 use Rattle.bits.specs.Remainders.{remainder}
 use Rattle.bch.specs.Codes.{Code, Codeword, Within}
 use Rattle.bch.specs.Promise.{Mended, Decodes}
-use Rattle.bch.specs.Held.{code_of}
+use Rattle.bch.specs.Held.{Sound, code_of}
 use Rattle.packed.specs.Packed.{bits512, padded}
-use Rattle.bch.specs.Registers.{whole, at_top}
+use Rattle.bch.specs.Registers.{whole, at_top, Remainders}
 use Rattle.answers.specs.Answers.{listed}
 use Rattle.answers.specs.Checks.{passes}
 use Rattle.bch.specs.declared.code.Held.{Held}
@@ -24,6 +24,11 @@ leftover h w = bit_xor (remainder 192 (whole h.generator) (take h.k w)) (at_top 
 -- the machine words of an entry that its remainders reach into, below the highest
 abbrev pub below_of : Held → ℕ
 below_of h = (h.n - h.k - 1) / 64
+
+-- a sound code, with its table, of whose entries these and the highest are read
+pub record Ready (h : Held) (table : List ℕ) : Type 0 where
+  pub sound : Sound h
+  pub rule : Remainders (whole h.generator) (take (64 * suc (below_of h)) table)
 
 -- the word that is packed: the first n bits
 unfoldable pub word_of : Held → List ℕ → List ℕ

@@ -5,7 +5,7 @@ ghost use Rattle.answers.specs.Checks.{passes};
 ghost use Rattle.bits.specs.Words.{Bits};
 ghost use Rattle.bits.specs.Places.{flipped_at};
 ghost use Rattle.bch.specs.Promise.{Decodes};
-ghost use Rattle.bch.specs.Held.{code_of, Fitting};
+ghost use Rattle.bch.specs.Held.{code_of, Fitting, Tabled};
 
 use crate::mending;
 use answers::{DecodedWord, PLACES};
@@ -13,7 +13,7 @@ use bch::code::Held;
 
 // The word's answer, and the codeword written where there is one.
 pub(crate) fn answer(c: Held, word: &[u8], out: &mut [u8]) -> DecodedWord
-    requires { Fitting c c.n word.now out.old }
+    requires { Fitting c c.n word.now out.old × Tabled c }
     ensures { Decodes (passes (code_of c)) word.now out.old result out.new }
 {
     let mended = mending::answer(c, packed::pack(word));

@@ -2,12 +2,12 @@
 ghost use Rattle.std.specs.Prelude.{◌≡◌, [], ◌∷◌, ◌-◌, ◌*◌, ◌<◌, replicate, Ok};
 ghost use Rattle.answers.specs.Answers.{listed, no_word};
 ghost use Rattle.bch.specs.Registers.{contents, tops};
-ghost use Rattle.bch.specs.Held.{Sound};
+ghost use Rattle.bch.specs.Held.{table_of};
 ghost use Rattle.packed.specs.Packed.{bits512};
-ghost use Rattle.decoder.specs.Candidates.{leftover, word_of, Clear, Single, Several, Settles, DecodesPacked};
+ghost use Rattle.decoder.specs.Candidates.{leftover, word_of, Clear, Ready, Single, Several, Settles, DecodesPacked};
 ghost use Rattle.decoder.specs.Syndromes.{Syndromes};
 
-// Sound c and Clear c words stand in each contract: a copy is another word of its code, so that a struct that carries both facts would be built, and
+// Ready c (table_of c) and Clear c words stand in each contract: a copy is another word of its code, so that a struct that carries both facts would be built, and
 // both shown, at each step all the same.
 use crate::search::Flips;
 use crate::{DecodedPacked, locator, search, syndrome};
@@ -18,7 +18,7 @@ use bch::register::Register;
 // The remainder of the whole word: that of its first k bits, and the other bits added. Of an entry of the table, the machine words below the highest are
 // read that a remainder of n - k digits reaches into.
 fn leftover(c: Held, words: &[u64; 8]) -> Register
-    requires { Sound c × Clear c words.now }
+    requires { Ready c (table_of c) × Clear c words.now }
     ensures { contents result ≡ leftover c (word_of c words.now) }
 {
     remainders::leftover(c.table(), (c.n - c.k - 1) / 64, c.k, words)
@@ -26,7 +26,7 @@ fn leftover(c: Held, words: &[u64; 8]) -> Register
 
 // The word itself where it is a codeword, else a copy with places flipped, if one is found that is.
 pub(crate) fn answer(c: Held, words: [u64; 8]) -> DecodedPacked
-    requires { Sound c × Clear c words }
+    requires { Ready c (table_of c) × Clear c words }
     ensures { DecodesPacked c words result }
 {
     let left = leftover(c, &words);
@@ -61,7 +61,7 @@ pub(crate) fn nothing(why: Refusal) -> DecodedPacked
 
 // A copy with one place flipped, if that is a codeword; else the one with the places flipped that the locator gives.
 fn mend(c: Held, left: Register, words: [u64; 8]) -> DecodedPacked
-    requires { Sound c × Clear c words × (contents left ≡ leftover c (word_of c words)) }
+    requires { Ready c (table_of c) × Clear c words × (contents left ≡ leftover c (word_of c words)) }
     ensures { DecodesPacked c words result }
 {
     let s = syndrome::syndromes(left, c.n - c.k, c.t);
@@ -78,7 +78,7 @@ fn mend(c: Held, left: Register, words: [u64; 8]) -> DecodedPacked
 // the answer if it is a codeword, whatever the other syndromes are. Each code mends more than one, which nothing that is known of c says: so it
 // is asked.
 fn single(c: Held, s: &[u16; 32], words: [u64; 8]) -> Option<DecodedPacked>
-    requires { Sound c × Clear c words }
+    requires { Ready c (table_of c) × Clear c words }
     ensures { Single c words result }
 {
     let e = field::logarithm(s[0])?;
@@ -101,7 +101,7 @@ fn one(place: usize) -> Flips
 
 // A copy with the places flipped that the locator gives, if that is a codeword; none where the locator is longer than t.
 fn several(c: Held, s: &[u16; 32], words: [u64; 8]) -> Option<DecodedPacked>
-    requires ready { Sound c × Clear c words }
+    requires ready { Ready c (table_of c) × Clear c words }
     requires known { Syndromes (tops (c.n - c.k) (leftover c (word_of c words))) (c.t * 2) s.now }
     ensures { Several c words result }
 {
@@ -115,7 +115,7 @@ fn several(c: Held, s: &[u16; 32], words: [u64; 8]) -> Option<DecodedPacked>
 
 // The copy, and what was flipped there, if it is a codeword.
 fn settle(c: Held, flips: Flips, copy: [u64; 8]) -> Option<DecodedPacked>
-    requires { Sound c × Clear c copy }
+    requires { Ready c (table_of c) × Clear c copy }
     ensures { Settles c flips copy result }
 {
     if leftover(c, &copy).is_zero() {

@@ -3,7 +3,7 @@
 
 ghost use Rattle.std.specs.Prelude.{◌≡◌, ◌++◌, take, drop};
 ghost use Rattle.bch.specs.Codes.{encoded};
-ghost use Rattle.bch.specs.Held.{Sound, code_of, Fitting};
+ghost use Rattle.bch.specs.Held.{Sound, Tabled, code_of, Fitting};
 ghost use Rattle.bch.specs.Promise.{Encoding};
 ghost use Rattle.bch.specs.Registers.{contents, whole};
 ghost use Rattle.bits.specs.Remainders.{remainder};
@@ -49,7 +49,7 @@ pub fn encode_packed(code: u8, words: [u64; 8]) -> EncodedPacked
 
 // The codeword of packed information, with zeros behind it: the remainder is put behind the information.
 fn codeword(c: &Held, information: [u64; 8]) -> [u64; 8]
-    requires { Sound c.now × (bits512 information ≡ padded (take c.now.k (bits512 information))) }
+    requires { Sound c.now × Tabled c.now × (bits512 information ≡ padded (take c.now.k (bits512 information))) }
     ensures { bits512 result ≡ padded (encoded (code_of c.now) (take c.now.k (bits512 information))) }
 {
     let r = remainder(c, &information);
@@ -59,7 +59,7 @@ fn codeword(c: &Held, information: [u64; 8]) -> [u64; 8]
 
 // The information, and behind it the remainder.
 fn write(c: &Held, bits: &[u8], out: &mut [u8])
-    requires { Fitting c.now c.now.k bits.now out.old }
+    requires { Fitting c.now c.now.k bits.now out.old × Tabled c.now }
     ensures { out.new ≡ encoded (code_of c.now) bits.now ++ drop c.now.n out.old }
 {
     let r = remainder(c, &packed::pack(bits));
@@ -69,7 +69,7 @@ fn write(c: &Held, bits: &[u8], out: &mut [u8])
 
 // The remainder of packed information, with zeros behind it.
 fn remainder(c: &Held, information: &[u64; 8]) -> Register
-    requires { Sound c.now × (bits512 information.now ≡ padded (take c.now.k (bits512 information.now))) }
+    requires { Sound c.now × Tabled c.now × (bits512 information.now ≡ padded (take c.now.k (bits512 information.now))) }
     ensures { contents result ≡ remainder 192 (whole c.now.generator) (take c.now.k (bits512 information.now)) }
 {
     remainders::leftover(c.table(), (c.n - c.k - 1) / 64, c.k, information)

@@ -11,7 +11,7 @@ use lib.ListN.{get_or, take, drop}
 use lib.Pow.{pow_pos, pow-add}
 use Rattle.bits.specs.Remainders.{remainder}
 use Rattle.bch.specs.Registers.{at_top, whole, Remainders}
-use Rattle.bch.specs.Held.{Sound, code_of, table_of}
+use Rattle.bch.specs.Held.{Sound, code_of, table_of, Tabled}
 use Rattle.bch.specs.declared.code.Held.{Held}
 use Rattle.bch.proofs.Entries.{table_fits}
 use Rattle.bits.proofs.Remainders.{remainder_scaled}
@@ -40,8 +40,8 @@ sound_narrowed h order narrow exact table fit rule =
         ∙ digits_mod (x * 2 ^ (192 - r - d)) (pow_pos d)
 
 -- so it is of the code's own table
-pub table_narrowed : {h : Held} → Sound h → Remainders (whole h.generator) (take (64 * suc ((h.n - h.k - 1) / 64)) (table_of h))
-table_narrowed {h} sound = sound_narrowed h sound.rooted.order sound.narrow sound.exact (table_of h) (table_fits h) sound.table
+pub table_narrowed : {h : Held} → Sound h → Tabled h → Remainders (whole h.generator) (take (64 * suc ((h.n - h.k - 1) / 64)) (table_of h))
+table_narrowed {h} sound rule = sound_narrowed h sound.rooted.order sound.narrow sound.exact (table_of h) (table_fits h) rule
 
 -- k information bits, and what stands behind them at the top added
 pub leftover_by_lem : (g : ℕ) (table words : List ℕ) (k : ℕ) → Remainders g table → g / 2 ^ 192 ≡ 1 → k % 8 ≡ 0 → k < 512

@@ -9,5 +9,5 @@ pub returns : goal.returns
 returns c =
     let r = c.remainder-r.result in
     let good = c.remainder-r.type_inv in
-    codeword_packed c.requires.0 c.args.information c.requires.1 r.high r.mid r.low
+    codeword_packed c.requires.0 c.args.information c.requires.2 r.high r.mid r.low
     (omega arith) (omega arith) (omega arith) c.remainder-r.ensures c.down-behind.result c.xor.result c.down-behind.ensures c.xor.ensures

@@ -1,12 +1,13 @@
 -- `encoder::encode_packed` meets its contract: the checks pass where there is such a code.
 -- Assumes nothing.
+use Rattle.bch.proofs.Entries.{tabled}
 use Rattle.encoder.proofs.PackedCodewords.{first_clear, first_encoded, unknown_encoded}
 use Rattle.encoder.proofs.encode_packed.Goals as goal
 
 pub codeword-requires : goal.codeword-requires
 codeword-requires c =
     let holds = rw c.in-Some.is at c.of_number.ensures in
-    (holds.0, first_clear holds.0 _ _ c.first.ensures)
+    (holds.0, tabled c.args.code _ holds.0 holds.1, first_clear holds.0 _ _ c.first.ensures)
 
 pub returns-in-Some : goal.returns-in-Some
 returns-in-Some c =

@@ -14,4 +14,4 @@ returns c =
     let h = c.args.c.now in
     let words = c.args.information.now in
     c.leftover.ensures ∙ ap (λ (t : List ℕ). leftover_by (take (64 * suc ((h.n - h.k - 1) / 64)) t) h.k words) c.table.ensures
-    ∙ left c.requires.0 words c.requires.1 (table_narrowed c.requires.0)
+    ∙ left c.requires.0 words c.requires.2 (table_narrowed c.requires.0 c.requires.1)

@@ -29,9 +29,9 @@ module _ (words m : List ℕ) (k : ℕ) (e : bits512 words ≡ padded (take 512 
 pub remainder-r-requires : goal.remainder-r-requires
 remainder-r-requires c =
     let s = c.args in
-    let fit = c.requires in
+    let fit = c.requires.0 in
     let low : s.c.now.k ≤ 512 = omega (arith, fit.sound.rooted.order, fit.sound.short) in
-    (fit.sound, packed c.pack.result s.bits.now s.c.now.k c.pack.ensures fit.bits fit.long low ∙ ap padded (sym (front c.pack.result s.bits.now s.c.now.k c.pack.ensures fit.bits fit.long low)))
+    (fit.sound, c.requires.1, packed c.pack.result s.bits.now s.c.now.k c.pack.ensures fit.bits fit.long low ∙ ap padded (sym (front c.pack.result s.bits.now s.c.now.k c.pack.ensures fit.bits fit.long low)))
 
 pub returns : goal.returns
 unfolding encoded
@@ -39,7 +39,7 @@ returns c =
     let h = c.args.c.now in
     let m = c.args.bits.now in
     let out = c.args.out.now in
-    let fit = c.requires in
+    let fit = c.requires.0 in
     let low : h.k ≤ h.n = omega (arith, fit.sound.rooted.order) in
     let first : c.put_front.new.to ≡ m ++ drop h.k out = c.put_front.ensures.there (omega (arith, fit.room, fit.long)) ∙ ap (λ (n : ℕ). m ++ drop n out) fit.long in
     let whole_word = front c.pack.result m h.k c.pack.ensures fit.bits fit.long (omega (arith, fit.sound.rooted.order, fit.sound.short)) in

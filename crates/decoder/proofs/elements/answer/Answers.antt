@@ -3,14 +3,15 @@
 use mathlib.Core.Logic.{inl}
 use native.Mathlib.Omega.{arith}
 use Rattle.decoder.proofs.Entries.{elements_clear, elements_answered, elements_refused, few_listed, all_listed, listed_inside, mended_written}
+use Rattle.decoder.proofs.PackedWords.{ready}
 use Rattle.decoder.proofs.elements.answer.Goals as goal
 
 pub answer-mended-requires : goal.answer-mended-requires
-answer-mended-requires c = (c.requires.sound, elements_clear c.requires c.pack.result c.pack.ensures)
+answer-mended-requires c = (ready c.requires.0.sound c.requires.1, elements_clear c.requires.0 c.pack.result c.pack.ensures)
 
 pub write-requires : goal.write-requires
 write-requires c =
-    let fit = c.requires in
+    let fit = c.requires.0 in
     let mended = c.answer-mended in
     let listed = elements_answered fit c.pack.result c.pack.ensures mended.result mended.ensures _ c.in-Ok.is in
     record {
@@ -20,7 +21,7 @@ write-requires c =
 
 pub returns-in-Ok : goal.returns-in-Ok
 returns-in-Ok c =
-    let fit = c.requires in
+    let fit = c.requires.0 in
     let mended = c.answer-mended in
     let listed = elements_answered fit c.pack.result c.pack.ensures mended.result mended.ensures _ c.in-Ok.is in
     inl (mended_written listed fit.long _ c.write.ensures)
@@ -28,4 +29,4 @@ returns-in-Ok c =
 pub returns-in-Err : goal.returns-in-Err
 returns-in-Err c =
     let mended = c.answer-mended in
-    elements_refused c.requires c.pack.result c.pack.ensures mended.result mended.ensures _ c.in-Err.is
+    elements_refused c.requires.0 c.pack.result c.pack.ensures mended.result mended.ensures _ c.in-Err.is

@@ -13,7 +13,7 @@ use Rattle.decoder.proofs.mending.answer.Goals as goal
 pub returns-then-is_zero : goal.returns-then-is_zero
 returns-then-is_zero c =
     let left = c.leftover-left in
-    let sound = c.requires.0 in
+    let sound = c.requires.0.sound in
     let words = c.args.words in
     let zero = sym left.ensures ∙ eqb-true (contents left.result) 0 (sym c.is_zero.ensures ∙ c.if-is_zero.true) in
     rw c.unchanged.ensures

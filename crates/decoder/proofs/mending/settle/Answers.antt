@@ -11,7 +11,7 @@ use Rattle.decoder.proofs.mending.settle.Goals as goal
 pub returns-then-is_zero : goal.returns-then-is_zero
 returns-then-is_zero c =
     let left = c.leftover in
-    let sound = c.requires.0 in
+    let sound = c.requires.0.sound in
     let copy = c.args.copy in
     let zero = sym left.ensures ∙ eqb-true (contents left.result) 0 (sym c.is_zero.ensures ∙ c.if-is_zero.true) in
     (codeword_of_zero sound (word_of c.args.c copy) (word_bits sound copy) (word_long sound copy) zero, refl)
@@ -19,7 +19,7 @@ returns-then-is_zero c =
 pub returns : goal.returns
 returns c =
     let left = c.leftover in
-    let sound = c.requires.0 in
+    let sound = c.requires.0.sound in
     let copy = c.args.copy in
     λ w. eqb-false (contents left.result) 0 (sym c.is_zero.ensures ∙ c.if-is_zero.false)
     (left.ensures ∙ zero_of_codeword sound (word_of c.args.c copy) (word_bits sound copy) (word_long sound copy) w)

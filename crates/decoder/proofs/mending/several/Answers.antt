@@ -10,11 +10,11 @@ use Rattle.decoder.proofs.Recurrences.{squared_syndromes, found_all}
 use Rattle.decoder.proofs.mending.several.Goals as goal
 
 pub shortest-found-requires : goal.shortest-found-requires
-shortest-found-requires c = (c.requires.ready.0.few, squared_syndromes _ _ _ (tops_bits _ _) c.requires.known)
+shortest-found-requires c = (c.requires.ready.0.sound.few, squared_syndromes _ _ _ (tops_bits _ _) c.requires.known)
 
 pub returns-then-c-found : goal.returns-then-c-found
 returns-then-c-found c =
-    let sound = c.requires.ready.0 in
+    let sound = c.requires.ready.0.sound in
     let words = c.args.words in
     none_near sound (word_of c.args.c words) (word_bits sound words) (word_long sound words) c.args.s.now
     c.requires.known c.shortest-found.result.locator (found_all c.shortest-found.ensures) c.if-c-found.true
@@ -22,7 +22,7 @@ returns-then-c-found c =
 pub flip-flipped-requires : goal.flip-flipped-requires
 unfolding word_of
 flip-flipped-requires c =
-    let sound = c.requires.ready.0 in (
+    let sound = c.requires.ready.0.sound in (
       omega (arith, sound.few, c.if-c-found.false),
       c.shortest-found.ensures.found.found.current.degree,
       omega (arith, sound.short),
@@ -37,7 +37,7 @@ settle-requires c = (c.requires.ready.0, c.flip-flipped.ensures.1)
 pub returns : goal.returns
 unfolding word_of
 returns c =
-    let sound = c.requires.ready.0 in
+    let sound = c.requires.ready.0.sound in
     let words = c.args.words in
     let flipped = c.flip-flipped in
     let only : Candidate (code_of c.args.c) (word_of c.args.c words) (word_of c.args.c flipped.result.copy) flipped.result.flips

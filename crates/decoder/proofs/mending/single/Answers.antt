@@ -10,13 +10,13 @@ pub settle-requires : goal.settle-requires
 settle-requires c =
     let place = c.args.c.n - 1 - c.in_ok-e.e in
     let inside : place < c.args.c.n = omega arith in
-    (c.requires.0, clear_flipped c.requires.0 c.args.words c.requires.1 c.flipped.result place inside c.flipped.ensures)
+    (c.requires.0, clear_flipped c.requires.0.sound c.args.words c.requires.1 c.flipped.result place inside c.flipped.ensures)
 
 pub returns : goal.returns
 returns c =
     let place = c.args.c.n - 1 - c.in_ok-e.e in
     let inside : place < c.args.c.n = omega arith in
-    let sound = c.requires.0 in
+    let sound = c.requires.0.sound in
     let copy = c.flipped.result in
     let clear = clear_flipped sound c.args.words c.requires.1 copy place inside c.flipped.ensures in
     let near = neighbour_flipped sound c.args.words c.requires.1 copy place inside c.flipped.ensures in
