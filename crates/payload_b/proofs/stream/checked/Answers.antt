@@ -1,8 +1,8 @@
--- `payload_b::stream::judged` meets its contract: each test that fails says what is not known of the state.
+-- `payload_b::stream::checked` meets its contract: each test that fails says what is not known of the state.
 -- Assumes nothing.
 use native.Mathlib.Omega.{arith}
 use Rattle.payload_b.proofs.StatesB.{seen_few}
-use Rattle.payload_b.proofs.stream.judged.Goals as goal
+use Rattle.payload_b.proofs.stream.checked.Goals as goal
 
 pub overflow_mul-bits : goal.overflow_mul-bits
 overflow_mul-bits c =
