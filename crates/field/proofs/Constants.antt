@@ -5,8 +5,8 @@ use mathlib.Core.List.{List, ◌++◌}
 use Prim.Native.Nat.{ℕ, zero, suc, ◌-◌, ◌<◌, min}
 use native.Mathlib.Decide.{dec_lt}
 use native.Mathlib.Omega.{arith}
-use lib.ListN.{length, get_or, replicate, get_or-append}
-use lib.Seq.{get_or-append_right}
+use lib.ListN.{length, get_or, take, replicate, get_or-append}
+use lib.Seq.{get_or-append_right, take_at}
 use Rattle.field.specs.Field.{shifted}
 use Rattle.field.specs.Tables.{log_table, power_table, listed, place_from, powers_from}
 use Rattle.field.specs.declared.tables.TheConstants.{LOGARITHMS, POWERS}
@@ -19,6 +19,9 @@ logarithms_are = refl {a = log_table}
 powers_are : POWERS ≡ power_table ++ replicate 1021 0
 unfolding power_table powers_from shifted
 powers_are = refl {a = power_table ++ replicate 1021 0}
+
+pub powers_front : take 1022 POWERS ≡ power_table
+powers_front = ap (take 1022) powers_are ∙ take_at power_table (replicate 1021 0) 1022 power_table-length
 
 zeros_at : (n i : ℕ) → ◌≡◌ {A = ℕ} (get_or (replicate n 0) i 0) 0
 zeros_at zero i = refl

@@ -8,6 +8,7 @@ ghost use Rattle.payload_b.specs.PlanB.{Judged};
 
 use crate::mode::ModeB;
 use answers::Refusal;
+use symbols::grid::POINTS;
 use symbols::scheme::Scheme;
 
 // A frame that needs more OFDM symbols is refused.
@@ -34,15 +35,16 @@ pub fn block_bits(mode: u8) -> usize
     numbered(mode).block_bits()
 }
 
-// The bits of an OFDM symbol: those of the scheme's 210 entries.
+// The bits of an OFDM symbol: those of the scheme's 210 entries. They are added up in 16 bits and over a length that stands here, so that the compiler takes
+// many at a time.
 fn sum(scheme: Scheme) -> usize
     ensures { result ≡ sum_of scheme.entry.entries.now }
 {
-    let mut n: usize = 0;
-    for &entry in scheme.entries() {
-        n += usize::from(entry);
+    let mut n: u16 = 0;
+    for &entry in &scheme.entries()[..POINTS] {
+        n += u16::from(entry);
     }
-    n
+    usize::from(n)
 }
 
 // The OFDM symbols that so many blocks need, of so many bits each, or 257 where more than 256 are: no scheme has room for more than 67,200 blocks.

@@ -101,8 +101,8 @@ pub struct Found<'a> {
     pub scheme: Scheme<'a>,
 }
 
-// How far a state is, one that is open, of this scheme and what moves; none where no opening and no steps can give it.
-pub fn judged<'a>(scheme: &'a [u8], s: Moving) -> Option<Found<'a>>
+// How far a state is, one that is open, of this scheme and what moves, and the scheme as one that was looked at; none where no opening and no steps can give it.
+pub fn checked<'a>(scheme: &'a [u8], s: Moving) -> Option<Found<'a>>
     ensures { MatchOption result (Judges (with_scheme scheme.now s) None) (λ found. Judges (with_scheme scheme.now s) (Some found.stage) × (found.scheme.entries.now ≡ scheme.now)) }
 {
     let Ok(frame) = plan::checked(s.mode, s.size, scheme) else {
@@ -138,6 +138,14 @@ pub fn judged<'a>(scheme: &'a [u8], s: Moving) -> Option<Found<'a>>
         stage: Stage { plan, done },
         scheme: frame.scheme,
     })
+}
+
+// How far it is alone: nothing of the scheme is kept.
+pub fn judged(scheme: &[u8], s: Moving) -> Option<Stage>
+    ensures { Judges (with_scheme scheme.now s) result }
+{
+    let found = checked(scheme, s)?;
+    Some(found.stage)
 }
 
 // What a course tells: 0 where it is open.

@@ -88,7 +88,7 @@ pub fn step_lent(scheme: &[u8], from: Moving, i: &[i16], q: &[i16], area: &mut [
 {
     match from.course {
         Course::Refused(why) => step::unchanged(why, from),
-        Course::Open => match stream_b::judged(scheme, from) {
+        Course::Open => match stream_b::checked(scheme, from) {
             None => step::unchanged(Refusal::Forged, from),
             Some(found) => step::next(found.scheme, from, found.stage, i, q, area),
         },
