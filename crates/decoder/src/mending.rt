@@ -7,8 +7,8 @@ ghost use Rattle.packed.specs.Packed.{bits512};
 ghost use Rattle.decoder.specs.Candidates.{leftover, word_of, Clear, Ready, Single, Several, Settles, DecodesPacked};
 ghost use Rattle.decoder.specs.Syndromes.{Syndromes};
 
-// Ready c (table_of c) and Clear c words stand in each contract: a copy is another word of its code, so that a struct that carries both facts would be built, and
-// both shown, at each step all the same.
+// Ready c (table_of c) and Clear c words stand in each contract: a copy is another word of its code, so that a struct that carries both facts would be
+// built, and both shown, at each step all the same.
 use crate::search::Flips;
 use crate::{DecodedPacked, locator, search, syndrome};
 use answers::{DecodedWord, PLACES, Refusal};

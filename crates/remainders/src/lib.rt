@@ -1,4 +1,5 @@
-// Remainders of packed words by a generator, sixteen bits a step, from its table of four parts of sixteen entries (bch's `Held::table`, or `register::table` for any generator).
+// Remainders of packed words by a generator, sixteen bits a step, from its table of four parts of sixteen entries (bch's `Held::table`; for any generator
+// `register::table`).
 // An entry has three machine words, the highest first. The lower ones are 0 for a short generator, so only as many are read as its remainders need: `below`
 // is how many of them below the highest.
 #![tactic(auto)]
