@@ -1,4 +1,4 @@
--- Our tables read Annex B: at every label and every point of its nine tables by computation, and so everywhere.
+-- Our tables, lent, read Annex B: at every label and every point of its nine tables by computation, and so everywhere.
 -- Assumes nothing.
 use mathlib.Core.Path.{◌≡◌, refl, sym, ap, subst, ◌∙◌}
 use mathlib.Core.Bool.{Bool, true, false, cond}
@@ -34,6 +34,38 @@ too_few cells n l h = unknown cells n l (λ e. omega arith) (rw (lt-leb 2 n h))
 
 pub too_many : (cells : List ℕ) (n l : ℕ) → 10 < n → point_in cells n l ≡ Nothing
 too_many cells n l h = unknown cells n l (λ e. omega arith) (no_quarter n h)
+
+-- ---- any table: by the cells where a label has no table of its own
+
+pub point_by_eight : (cells : List ℕ) (l : ℕ) → point_in cells 3 l ≡ point_of 3 l
+unfolding point_in
+point_by_eight cells l = refl
+
+pub point_by_quarter : (cells : List ℕ) (n l : ℕ) → (n ≡ 3 → ⊥) → point_in cells n l ≡ quarter_point cells (quarter_of n) l
+unfolding point_in
+point_by_quarter cells n l no3 = rw (ne_eqb n 3 no3)
+
+-- ---- any tables: a label that is read stands, if its point is the one that came in
+
+-- a label is read as it is guessed
+read_is_guess : (quadrants : List ℕ) (n : ℕ) (i q : ℤ) → 2 ≤ n → n ≤ 10 → read_in quadrants n i q ≡ guess_in quadrants n (parts_of i) (parts_of q)
+unfolding read_in
+read_is_guess quadrants n i q a b = rw (le-leb 2 n a, le-leb n 10 b)
+
+-- where there are no points
+no_label : (cells quadrants : List ℕ) (n l : ℕ) (i q : ℤ) → ((l : ℕ) → point_in cells n l ≡ Nothing) → confirmed (point_in cells n l) l i q ≡ label_in cells quadrants n i q
+unfolding label_in
+no_label cells quadrants n l i q none = rw (none l, none (guess_in quadrants n (parts_of i) (parts_of q)))
+
+pub label_by_read : (cells quadrants : List ℕ) (n : ℕ) (i q : ℤ) →
+    confirmed (point_in cells n (read_in quadrants n i q)) (read_in quadrants n i q) i q ≡ label_in cells quadrants n i q
+unfolding label_in
+label_by_read cells quadrants n i q = by (dec_le 2 n) (dec_le n 10)
+  where
+    by : Dec (2 ≤ n) → Dec (n ≤ 10) → confirmed (point_in cells n (read_in quadrants n i q)) (read_in quadrants n i q) i q ≡ label_in cells quadrants n i q
+    by (yes a) (yes b) = rw (read_is_guess quadrants n i q a b)
+    by (no a) h = no_label cells quadrants n (read_in quadrants n i q) i q (λ l. too_few cells n l (omega arith))
+    by (yes a) (no b) = no_label cells quadrants n (read_in quadrants n i q) i q (λ l. too_many cells n l (omega arith))
 
 -- ---- how many points there are
 
@@ -111,17 +143,6 @@ point_ours n l = by (dec_le (length (points n)) l)
     by (yes h) = beyond n l h
     by (no h) = within n l (omega arith)
 
--- by our cells at the labels that have no table of their own, and nothing where there are no bits for one
-pub point_by_quarter : (n l : ℕ) → (n ≡ 3 → ⊥) → point_of n l ≡ quarter_point our_cells (quarter_of n) l
-unfolding point_in
-point_by_quarter n l no3 = sym (point_ours n l) ∙ rw (ne_eqb n 3 no3)
-
-pub point_of_few : (n l : ℕ) → n < 2 → point_of n l ≡ Nothing
-point_of_few n l h = sym (point_ours n l) ∙ too_few our_cells n l h
-
-pub point_of_many : (n l : ℕ) → 10 < n → point_of n l ≡ Nothing
-point_of_many n l h = sym (point_ours n l) ∙ too_many our_cells n l h
-
 -- ---- from point to label
 
 -- the label guessed by our quadrants
@@ -144,25 +165,3 @@ pub label_ours : (n : ℕ) (i q : ℤ) → label_in our_cells our_quadrants n i 
 unfolding label_in label_of point_of guess
 label_ours n i q =
     ap (λ (p : Point). confirmed p (guess n i q) i q) (point_ours n (guess n i q)) ∙ look_again (guess n) (points n) (guess_tells n) i q
-
--- a label is read as it is guessed
-read_is_guess : (n : ℕ) (i q : ℤ) → 2 ≤ n → n ≤ 10 → read_in our_quadrants n i q ≡ guess n i q
-unfolding read_in guess
-read_is_guess n i q a b = rw (le-leb 2 n a, le-leb n 10 b)
-
-label_by_guess : (n : ℕ) (i q : ℤ) → confirmed (point_of n (guess n i q)) (guess n i q) i q ≡ label_of n i q
-unfolding label_of point_of
-label_by_guess n i q = look_again (guess n) (points n) (guess_tells n) i q
-
--- where there are no points
-no_label : (n l : ℕ) (i q : ℤ) → ((l : ℕ) → point_of n l ≡ Nothing) → confirmed (point_of n l) l i q ≡ label_of n i q
-no_label n l i q none = rw none (rw none at (label_by_guess n i q))
-
--- a label that is read stands, if its point is the one that came in
-pub label_by_read : (n : ℕ) (i q : ℤ) → confirmed (point_of n (read_in our_quadrants n i q)) (read_in our_quadrants n i q) i q ≡ label_of n i q
-label_by_read n i q = by (dec_le 2 n) (dec_le n 10)
-  where
-    by : Dec (2 ≤ n) → Dec (n ≤ 10) → confirmed (point_of n (read_in our_quadrants n i q)) (read_in our_quadrants n i q) i q ≡ label_of n i q
-    by (yes a) (yes b) = rw (read_is_guess n i q a b) (label_by_guess n i q)
-    by (no a) h = no_label n (read_in our_quadrants n i q) i q (λ l. point_of_few n l (omega arith))
-    by (yes a) (no b) = no_label n (read_in our_quadrants n i q) i q (λ l. point_of_many n l (omega arith))

@@ -1,4 +1,4 @@
--- How the code reads: by a table of cells and one of quadrants, said over any two such tables, and the two that are ours, which the code reads.
+-- How the code reads: what the functions that are lent tables answer, whatever they are lent, and the tables that are ours to lend.
 -- With ours it comes to `point_of` and `label_of` (proofs/Lending.antt), so that nobody has to believe anything here.
 -- But for 8QAM a label's first two bits are the signs of I and Q, and the rest, the low bits, stand for a cell:
 -- cell 16x + y has the levels 2x + 1 and 2y + 1. So a quarter of each table of Annex B says it all.

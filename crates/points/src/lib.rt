@@ -3,7 +3,7 @@
 #![tactic(auto)]
 
 ghost use Rattle.std.specs.Prelude.{◌≡◌, nat_abs};
-ghost use Rattle.points.specs.Constellations.{level_i, level_q};
+ghost use Rattle.points.specs.Constellations.{level_i, level_q, label_number, is_stray};
 
 pub mod constellation;
 pub mod dqpsk;
@@ -39,6 +39,20 @@ pub fn level_q(point: Point) -> i16
         Point::At { i: _, q } => q,
         Point::Nothing => 0,
     }
+}
+
+// Whether a label says that the point is stray.
+pub fn is_stray(label: Option<u16>) -> bool
+    ensures { result ≡ is_stray label }
+{
+    label.is_none()
+}
+
+// The number that a label says: 0 where the point is stray.
+pub fn label_number(label: Option<u16>) -> u16
+    ensures { result ≡ label_number label }
+{
+    label.unwrap_or(0)
 }
 
 // The size of a level.

@@ -1,9 +1,8 @@
 // Every constellation but 8QAM, by a quarter of its table: a label's first two bits are the signs of I and Q.
 ghost use Rattle.std.specs.Prelude.{◌≡◌, ◌*◌, ◌<◌, ◌≤◌};
-ghost use Rattle.points.specs.Lent.{quarter_of, signed, byte_of, byte_in, quarter_point, signs_of, low_in, quarter_guess, our_cells, our_quadrants};
+ghost use Rattle.points.specs.Lent.{quarter_of, signed, byte_of, byte_in, quarter_point, signs_of, low_in, quarter_guess};
 
 use crate::level::Parts;
-use crate::tables::{CELLS, QUADRANTS};
 use crate::{Point, level};
 
 // Such a constellation, by how many bits a label has.
@@ -22,49 +21,47 @@ impl Quarter {
         1u16 << (self.bits - 2)
     }
 
-    // The point of a label.
-    pub(crate) fn point(self, label: u16) -> Point
-        ensures { result ≡ quarter_point our_cells (quarter_of self.bits) label }
+    // The point of a label, by the table that is lent.
+    pub(crate) fn point(self, cells: &[u64; 64], label: u16) -> Point
+        ensures { result ≡ quarter_point cells.now (quarter_of self.bits) label }
     {
         let quarter = self.size();
         if 4 * quarter <= label {
             return Point::Nothing;
         }
-        signed(label / quarter, cell(quarter + label % quarter))
+        signed(label / quarter, cell(cells, quarter + label % quarter))
     }
 
-    // The one label that (i, q) can have.
-    pub(crate) fn guess(self, i: Parts, q: Parts) -> u16
-        ensures { result ≡ quarter_guess our_quadrants self.bits i q }
+    // The one label that (i, q) can have, by the table that is lent.
+    pub(crate) fn guess(self, quadrants: &[u64; 128], i: Parts, q: Parts) -> u16
+        ensures { result ≡ quarter_guess quadrants.now self.bits i q }
     {
-        first_two(self.size(), i, q) + low(self.bits, i.size / 2, q.size / 2)
+        first_two(self.size(), i, q) + low(quadrants, self.bits, i.size / 2, q.size / 2)
     }
 }
 
 // The low bits that the quadrant of so many bits has at row x and column y.
-fn low(bits: u8, x: u16, y: u16) -> u16
-    ensures { (result ≡ low_in our_quadrants bits x y) × (result < 256) }
+fn low(quadrants: &[u64; 128], bits: u8, x: u16, y: u16) -> u16
+    ensures { (result ≡ low_in quadrants.now bits x y) × (result < 256) }
 {
-    let start = low_byte(u16::from(bits % 16));
-    low_byte(16 * (start + x % 16) + y % 16)
+    let start = low_byte(quadrants, u16::from(bits % 16));
+    low_byte(quadrants, 16 * (start + x % 16) + y % 16)
 }
 
 // Byte k of the table of cells, going round.
-#[tactic(auto, using(crate::proofs::Ours::cells_ours))]
-fn cell(k: u16) -> u8
-    ensures { result ≡ byte_in 512 our_cells k }
+fn cell(cells: &[u64; 64], k: u16) -> u8
+    ensures { result ≡ byte_in 512 cells.now k }
 {
     let k = (k % 512) as usize;
-    byte(CELLS[k / 8], k)
+    byte(cells[k / 8], k)
 }
 
 // Byte k of the table of quadrants, going round.
-#[tactic(auto, using(crate::proofs::Ours::quadrants_ours))]
-fn low_byte(k: u16) -> u16
-    ensures { (result ≡ byte_in 1024 our_quadrants k) × (result < 256) }
+fn low_byte(quadrants: &[u64; 128], k: u16) -> u16
+    ensures { (result ≡ byte_in 1024 quadrants.now k) × (result < 256) }
 {
     let k = (k % 1024) as usize;
-    u16::from(byte(QUADRANTS[k / 8], k))
+    u16::from(byte(quadrants[k / 8], k))
 }
 
 // The point of a cell, with the signs that two bits say.

@@ -1,14 +1,14 @@
--- `points::constellation::label` meets its contract: a label that is read stands, if its point is the one that came in.
+-- `points::constellation::label` meets its contract: with our tables, the lent form reads Annex B.
 -- Assumes nothing.
 use mathlib.Core.Path.{◌∙◌}
 use mir.Syntax.{w16}
 use mir.ValLaws.{to_z-of_z}
-use Rattle.points.proofs.Lending.{label_by_read}
+use Rattle.points.proofs.Lending.{label_ours}
 use Rattle.points.proofs.constellation.label.Goals as goal
 
 pub returns : goal.returns
 returns c =
     let i = to_z-of_z w16 c.args.i c.ranges.i in
     let q = to_z-of_z w16 c.args.q c.ranges.q in
-    let read = rw (i, q) at c.read-guess.ensures in
-    rw (c.point.ensures, read, i, q) at c.confirmed.ensures ∙ label_by_read c.args.bits c.args.i c.args.q
+    let answer = rw (c.cell_table.ensures, c.quadrant_table.ensures, i, q) at c.label_in.ensures in
+    answer ∙ label_ours c.args.bits c.args.i c.args.q
