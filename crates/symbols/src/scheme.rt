@@ -94,13 +94,7 @@ impl<'a> Scheme<'a> {
     }
 
     // `write_in`, below, by this scheme.
-    pub(crate) fn write_in(
-        self,
-        cells: &[u64; 64],
-        bits: &[u64; RUN],
-        i: &mut [i16],
-        q: &mut [i16],
-    )
+    pub(crate) fn write_in(self, cells: &[u64; 64], bits: &[u64; RUN], i: &mut [i16], q: &mut [i16])
         ensures { (i.new ≡ symbol_written_in level_i cells.now self.entry.entries.now (bits_from 41 0 bits.now) i.old q.old i.old) × (q.new ≡ symbol_written_in level_q cells.now self.entry.entries.now (bits_from 41 0 bits.now) i.old q.old q.old) }
     {
         if !grid::room(SUB_CARRIERS, i, q) {
@@ -173,13 +167,7 @@ pub fn write(scheme: &[u8], bits: &[u64; RUN], i: &mut [i16], q: &mut [i16])
 }
 
 // The same by the table that is lent, such as points' `cell_table`.
-pub fn write_in(
-    cells: &[u64; 64],
-    scheme: &[u8],
-    bits: &[u64; RUN],
-    i: &mut [i16],
-    q: &mut [i16],
-)
+pub fn write_in(cells: &[u64; 64], scheme: &[u8], bits: &[u64; RUN], i: &mut [i16], q: &mut [i16])
     ensures { (i.new ≡ symbol_written_in level_i cells.now scheme.now (bits_from 41 0 bits.now) i.old q.old i.old) × (q.new ≡ symbol_written_in level_q cells.now scheme.now (bits_from 41 0 bits.now) i.old q.old q.old) }
 {
     if let Ok(scheme) = Scheme::new(scheme) {
