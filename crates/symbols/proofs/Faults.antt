@@ -18,6 +18,7 @@ use Rattle.symbols.specs.Grids.{index_of, first_occupied}
 use Rattle.symbols.specs.Schemes.{bad_entry, Scheme}
 use Rattle.symbols.specs.Faults.{roomy, fault_at}
 use Rattle.symbols.specs.ByScheme.{bad_place, readable}
+use Rattle.symbols.proofs.Rooms.{both_true}
 use Rattle.symbols.proofs.Schemes.{bad_most}
 
 -- ---- a loop over the entries
@@ -54,6 +55,11 @@ module _ (scheme : List ℕ) where
 pub looked_at : {scheme : List ℕ} → length scheme ≡ 210 → bad_entry scheme ≡ 210 → Scheme scheme
 looked_at long within = record { long = long; entries = within }
 
+-- what can be looked at is a scheme, and the lists are long enough
+pub parts : (m : ℕ) (scheme : List ℕ) (is qs : List ℤ) → readable m scheme is qs ≡ true
+    → (eqb (length scheme) 210 && eqb (bad_entry scheme) 210 ≡ true) × (roomy m is qs ≡ true)
+parts m scheme is qs ready = both_true _ _ (sym ready)
+
 pub good_readable : {scheme : List ℕ} → Scheme scheme → (m : ℕ) (is qs : List ℤ) → readable m scheme is qs ≡ roomy m is qs
 good_readable {scheme} good m is qs = rw (eq-eqb (length scheme) 210 good.long, eq-eqb (bad_entry scheme) 210 good.entries) refl
 
@@ -68,6 +74,9 @@ clear = Ok tt
 module _ (stray m : ℕ) (is qs : List ℤ) where
   pub fault_occupied : first_occupied is qs 0 (256 * m) < 256 * m → Err (Occupied (first_occupied is qs 0 (256 * m))) ≡ fault_at stray m is qs
   fault_occupied h = rw (lt-ltb (first_occupied is qs 0 (256 * m)) (256 * m) h)
+
+  pub fault_stray : 256 * m ≤ first_occupied is qs 0 (256 * m) → stray < 210 * m → Err (StrayPoint (index_of stray)) ≡ fault_at stray m is qs
+  fault_stray free h = rw (le-ltb (first_occupied is qs 0 (256 * m)) (256 * m) free, lt-ltb stray (210 * m) h)
 
   pub fault_none : 256 * m ≤ first_occupied is qs 0 (256 * m) → 210 * m ≤ stray → clear ≡ fault_at stray m is qs
   fault_none free h = rw (le-ltb (first_occupied is qs 0 (256 * m)) (256 * m) free, le-ltb stray (210 * m) h)

@@ -14,6 +14,7 @@ pub mod Faults
 pub mod Looks
 pub mod Strays
 pub mod ReadBits
+pub mod ReadIn
 pub mod Fronts
 pub mod Joins
 pub mod Growth

@@ -1,11 +1,13 @@
--- Bits to points: the number of bits of machine words, the points entry by entry, and those of no more bits than are needed.
+-- Bits to points: the number of bits of machine words, the points entry by entry, by a table that is lent and by ours, and those of no more bits than are needed.
 -- Assumes nothing.
 use mathlib.Core.Path.{◌≡◌, refl, sym, ap, ap₂, ◌∙◌}
-use mathlib.Core.List.{List, [], ◌∷◌, ◌++◌}
+use mathlib.Core.Bool.{cond}
+use mathlib.Core.List.{List, [], ◌∷◌, ◌++◌, map}
 use Prim.Native.Nat.{ℕ, zero, suc, ◌+◌, ◌-◌, ◌/◌, ◌%◌, ◌^◌, ◌≤◌, ◌<◌}
 use native.Mathlib.Nat.{zero-add}
 use native.Mathlib.Numerals.{add-one}
 use native.Mathlib.Omega.{arith}
+use lib.IntN.{ℤ}
 use lib.ListN.{length, get_or, take, drop}
 use lib.Pow.{shr_lt}
 use lib.Seq.{take_at, take-take, take-append-le, drop-drop, drop-append-add}
@@ -18,12 +20,14 @@ use Rattle.packed.specs.Packed.{bits_from}
 use Rattle.packed.proofs.Paddings.{drop-take}
 use Rattle.packed.proofs.Walks.{from_append, length_from}
 use Rattle.packed.proofs.Windows.{across_of, next_across}
+use Rattle.points.specs.declared.Point.{Point}
 use Rattle.points.specs.declared.Point.TheVariants.{Nothing}
 use Rattle.points.specs.Constellations.{point_of}
-use Rattle.points.specs.Lent.{our_cells}
+use Rattle.points.specs.Lent.{point_in, our_cells}
 use Rattle.points.proofs.Lending.{point_ours}
+use Rattle.symbols.specs.Grids.{spread}
 use Rattle.symbols.specs.Schemes.{sum_of, mapped}
-use Rattle.symbols.specs.ByScheme.{mapped_by}
+use Rattle.symbols.specs.ByScheme.{readable, mapped_by, symbol_written, symbol_written_in}
 
 -- ---- the number of n bits of machine words
 
@@ -74,12 +78,35 @@ mapped_at (n ∷ ns) bits (suc s) h =
     mapped_at ns (drop n bits) s (omega arith)
     ∙ ap (λ (v : List ℕ). point_of (get_or ns s 0) (as_number (take (get_or ns s 0) v))) (drop-drop (sum_of (take s ns)) n bits)
 
+-- ---- by a table that is lent
+
+pub length-mapped_by : (cells ns bits : List ℕ) → length (mapped_by cells ns bits) ≡ length ns
+unfolding mapped_by
+length-mapped_by cells [] bits = refl
+length-mapped_by cells (n ∷ ns) bits = ap suc (length-mapped_by cells ns (drop n bits))
+
+pub mapped_by_at : (cells ns bits : List ℕ) (s : ℕ) → s < length ns
+    → get_or (mapped_by cells ns bits) s Nothing ≡ point_in cells (get_or ns s 0) (as_number (take (get_or ns s 0) (drop (sum_of (take s ns)) bits)))
+unfolding mapped_by sum_of
+mapped_by_at cells [] bits s h = absurd (omega arith)
+mapped_by_at cells (n ∷ ns) bits zero h = refl
+mapped_by_at cells (n ∷ ns) bits (suc s) h =
+    mapped_by_at cells ns (drop n bits) s (omega arith)
+    ∙ ap (λ (v : List ℕ). point_in cells (get_or ns s 0) (as_number (take (get_or ns s 0) v))) (drop-drop (sum_of (take s ns)) n bits)
+
 -- ---- with our table, they are those of the constellations
 
 pub mapped_ours : (ns bits : List ℕ) → mapped_by our_cells ns bits ≡ mapped ns bits
 unfolding mapped_by mapped
 mapped_ours [] bits = refl
 mapped_ours (n ∷ ns) bits = ap₂ ◌∷◌ (point_ours n (as_number (take n bits))) (mapped_ours ns (drop n bits))
+
+-- so is what is put onto the sub-carriers
+pub written_ours : (level : Point → ℤ) {cells : List ℕ} → cells ≡ our_cells → (scheme bits : List ℕ) (is qs levels : List ℤ)
+    → symbol_written_in level cells scheme bits is qs levels ≡ symbol_written level scheme bits is qs levels
+written_ours level ours scheme bits is qs levels =
+    ap (λ (ps : List Point). cond (readable 1 scheme is qs) (spread (map level ps) ++ drop 256 levels) levels)
+    (ap (λ (table : List ℕ). mapped_by table scheme bits) ours ∙ mapped_ours scheme bits)
 
 -- ---- bits beyond those of the scheme do not matter
 

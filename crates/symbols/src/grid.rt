@@ -1,5 +1,5 @@
 // The grid: points on the 256 sub-carriers of an OFDM symbol (equation 4), and where to read them.
-ghost use Rattle.std.specs.Prelude.{◌≡◌, ◌%◌, pos, length, get_or};
+ghost use Rattle.std.specs.Prelude.{◌≡◌, ◌%◌, pos, length, get_or, replicate};
 ghost use Rattle.symbols.specs.Grid.{sub_carriers, symbol_points, carrier_at, carrier_of};
 ghost use Rattle.symbols.specs.Grids.{level_on, levels_from, index_of, occupied, first_occupied, room};
 
@@ -82,9 +82,9 @@ fn put_symbol(levels: &[i16], out: &mut [i16])
     requires { (length levels.now ≡ symbol_points) × (length out.old ≡ sub_carriers) }
     ensures { out.new ≡ levels_from levels.now 0 (length out.old) }
 {
-    out[0..1].fill(0);
+    clear(&mut out[0..1]);
     copy(&levels[105..210], &mut out[1..106]);
-    out[106..151].fill(0);
+    clear(&mut out[106..151]);
     copy(&levels[0..105], &mut out[151..256]);
 }
 
@@ -96,6 +96,14 @@ fn copy(levels: &[i16], out: &mut [i16])
     for k in 0..out.len() {
         out[k] = levels[k];
     }
+}
+
+// Makes each level zero.
+#[inline]
+pub fn clear(out: &mut [i16])
+    ensures { out.new ≡ replicate (length out.old) (pos 0) }
+{
+    out.fill(0);
 }
 
 // The grid index of the point at a place of the s order, 210 places to an OFDM symbol.

@@ -5,7 +5,7 @@ ghost use Rattle.bits.specs.Words.{digits};
 ghost use Rattle.packed.specs.Packed.{bits_from, padded_to};
 ghost use Rattle.symbols.specs.Grid.{sub_carriers, symbol_points};
 ghost use Rattle.symbols.specs.Grids.{points_from};
-ghost use Rattle.symbols.specs.ByScheme.{read_by};
+ghost use Rattle.symbols.specs.ByScheme.{read_by_in};
 
 use crate::grid;
 use crate::grid::POINTS;
@@ -13,8 +13,9 @@ use crate::scheme::Scheme;
 use packed::RUN;
 use points::constellation;
 
-// The bits that one OFDM symbol's points are read as, behind the first `count` bits of words, where there are zeros.
+// The bits that one OFDM symbol's points are read as by a table that is lent, behind the first `count` bits of words, where there are zeros.
 pub(crate) fn points_behind(
+    quadrants: &[u64; 128],
     scheme: Scheme<'_>,
     i: &[i16],
     q: &[i16],
@@ -22,7 +23,7 @@ pub(crate) fn points_behind(
     count: usize,
 ) -> [u64; RUN]
     requires { (sub_carriers ≤ length i.now) × (sub_carriers ≤ length q.now) × (count ≤ 512) × (bits_from 41 0 begun ≡ padded_to 2624 (take count (bits_from 41 0 begun))) }
-    ensures { bits_from 41 0 result ≡ padded_to 2624 (take count (bits_from 41 0 begun) ++ read_by scheme.entry.entries.now (points_from i.now q.now 1 symbol_points)) }
+    ensures { bits_from 41 0 result ≡ padded_to 2624 (take count (bits_from 41 0 begun) ++ read_by_in quadrants.now scheme.entry.entries.now (points_from i.now q.now 1 symbol_points)) }
 {
     let mut words = begun;
     let mut top = words[count / 64];
@@ -30,7 +31,7 @@ pub(crate) fn points_behind(
     for s in 0..POINTS {
         let k = grid::carrier_of(s + 1);
         let n = scheme.entries[s];
-        let label = high(constellation::read(n, i[k], q[k]), n);
+        let label = high(constellation::read_in(quadrants, n, i[k], q[k]), n);
         words[at / 64] = top | label >> (at % 64);
         top = next(top, at % 64, usize::from(n), label);
         at += usize::from(n);

@@ -4,7 +4,7 @@ ghost use Rattle.packed.specs.Packed.{bits_from, bits512, padded_to};
 ghost use Rattle.points.specs.Constellations.{level_i, level_q, label_of, is_stray};
 ghost use Rattle.symbols.specs.Grid.{symbol_points};
 ghost use Rattle.symbols.specs.Schemes.{bad_entry};
-ghost use Rattle.symbols.specs.ByScheme.{is_good, bad_place, fault_in, symbol_read, symbol_written};
+ghost use Rattle.symbols.specs.ByScheme.{is_good, bad_place, fault_in, symbol_read, symbol_written, symbol_read_in, symbol_written_in};
 
 use crate::checks::Reads;
 use crate::grid::{POINTS, SUB_CARRIERS};
@@ -65,21 +65,48 @@ impl<'a> Scheme<'a> {
     pub fn read(self, i: &[i16], q: &[i16], front: [u64; 8], count: usize) -> [u64; RUN]
         ensures { bits_from 41 0 result ≡ padded_to 2624 (take count (bits512 front) ++ symbol_read self.entry.entries.now i.now q.now) }
     {
+        self.read_in(constellation::quadrant_table(), i, q, front, count)
+    }
+
+    // `read_in`, below, by this scheme.
+    pub(crate) fn read_in(
+        self,
+        quadrants: &[u64; 128],
+        i: &[i16],
+        q: &[i16],
+        front: [u64; 8],
+        count: usize,
+    ) -> [u64; RUN]
+        ensures { bits_from 41 0 result ≡ padded_to 2624 (take count (bits512 front) ++ symbol_read_in quadrants.now self.entry.entries.now i.now q.now) }
+    {
         let begun = packed::begun(packed::first(&front, count));
         if !grid::room(SUB_CARRIERS, i, q) {
             return begun;
         }
-        growing::points_behind(self, i, q, begun, count.min(512))
+        growing::points_behind(quadrants, self, i, q, begun, count.min(512))
     }
 
     // `write`, below, by this scheme.
     pub fn write(self, bits: &[u64; RUN], i: &mut [i16], q: &mut [i16])
         ensures { (i.new ≡ symbol_written level_i self.entry.entries.now (bits_from 41 0 bits.now) i.old q.old i.old) × (q.new ≡ symbol_written level_q self.entry.entries.now (bits_from 41 0 bits.now) i.old q.old q.old) }
     {
+        self.write_in(constellation::cell_table(), bits, i, q);
+    }
+
+    // `write_in`, below, by this scheme.
+    pub(crate) fn write_in(self, cells: &[u64; 64], bits: &[u64; RUN], i: &mut [i16], q: &mut [i16])
+        ensures { (i.new ≡ symbol_written_in level_i cells.now self.entry.entries.now (bits_from 41 0 bits.now) i.old q.old i.old) × (q.new ≡ symbol_written_in level_q cells.now self.entry.entries.now (bits_from 41 0 bits.now) i.old q.old q.old) }
+    {
         if !grid::room(SUB_CARRIERS, i, q) {
             return;
         }
-        spreading::put_points(self, bits, &mut i[0..SUB_CARRIERS], &mut q[0..SUB_CARRIERS]);
+        spreading::put_points(
+            cells,
+            self,
+            bits,
+            &mut i[0..SUB_CARRIERS],
+            &mut q[0..SUB_CARRIERS],
+        );
     }
 }
 
@@ -111,8 +138,22 @@ pub fn first_fault(scheme: &[u8], m: usize, i: &[i16], q: &[i16]) -> Result<(), 
 pub fn read(scheme: &[u8], i: &[i16], q: &[i16], front: [u64; 8], count: usize) -> [u64; RUN]
     ensures { bits_from 41 0 result ≡ padded_to 2624 (take count (bits512 front) ++ symbol_read scheme.now i.now q.now) }
 {
+    read_in(constellation::quadrant_table(), scheme, i, q, front, count)
+}
+
+// The same by the table that is lent, such as points' `quadrant_table`.
+pub fn read_in(
+    quadrants: &[u64; 128],
+    scheme: &[u8],
+    i: &[i16],
+    q: &[i16],
+    front: [u64; 8],
+    count: usize,
+) -> [u64; RUN]
+    ensures { bits_from 41 0 result ≡ padded_to 2624 (take count (bits512 front) ++ symbol_read_in quadrants.now scheme.now i.now q.now) }
+{
     match Scheme::new(scheme) {
-        Ok(scheme) => scheme.read(i, q, front, count),
+        Ok(scheme) => scheme.read_in(quadrants, i, q, front, count),
         Err(_) => packed::begun(packed::first(&front, count)),
     }
 }
@@ -122,8 +163,15 @@ pub fn read(scheme: &[u8], i: &[i16], q: &[i16], front: [u64; 8], count: usize) 
 pub fn write(scheme: &[u8], bits: &[u64; RUN], i: &mut [i16], q: &mut [i16])
     ensures { (i.new ≡ symbol_written level_i scheme.now (bits_from 41 0 bits.now) i.old q.old i.old) × (q.new ≡ symbol_written level_q scheme.now (bits_from 41 0 bits.now) i.old q.old q.old) }
 {
+    write_in(constellation::cell_table(), scheme, bits, i, q);
+}
+
+// The same by the table that is lent, such as points' `cell_table`.
+pub fn write_in(cells: &[u64; 64], scheme: &[u8], bits: &[u64; RUN], i: &mut [i16], q: &mut [i16])
+    ensures { (i.new ≡ symbol_written_in level_i cells.now scheme.now (bits_from 41 0 bits.now) i.old q.old i.old) × (q.new ≡ symbol_written_in level_q cells.now scheme.now (bits_from 41 0 bits.now) i.old q.old q.old) }
+{
     if let Ok(scheme) = Scheme::new(scheme) {
-        scheme.write(bits, i, q);
+        scheme.write_in(cells, bits, i, q);
     }
 }
 

@@ -12,8 +12,8 @@ pub returns : goal.returns
 returns c =
     let levels = c.args.levels.now in
     let none = front_none c.args.out.now c.requires.1 in
-    let one = front_zeros 0 1 (omega arith) (omega arith) _ (c.fill.ensures.after (λ y e. e)) none in
+    let one = front_zeros 0 1 (omega arith) (omega arith) _ c.clear.ensures none in
     let low = front_more 1 106 (omega arith) (omega arith) _ (take 105 (drop 105 levels)) (mid_len 105 210 levels (omega arith)) c.copy.ensures one in
-    let middle = front_zeros 106 151 (omega arith) (omega arith) _ (c.fill-2.ensures.after (λ y e. e)) low in
+    let middle = front_zeros 106 151 (omega arith) (omega arith) _ c.clear-2.ensures low in
     let high = front_more 151 256 (omega arith) (omega arith) _ (take 105 levels) (mid_len 0 105 levels (omega arith)) c.copy-2.ensures middle in
     front_all high ∙ sym (ap (levels_from levels 0) c.requires.1 ∙ levels_parts levels c.requires.0)

@@ -1,14 +1,17 @@
--- `symbols::scheme::Scheme::write` meets its contract: the front of both lists is written, and what is behind it stays.
+-- `symbols::scheme::Scheme::write` meets its contract: by our table, lent, what is put is what ours says.
 -- Assumes nothing.
-use mathlib.Core.Path.{sym, ap, ◌∙◌}
-use mathlib.Core.List.{◌++◌}
-use lib.ListN.{drop}
-use Rattle.symbols.proofs.Faults.{looked_at, good_readable}
+use mathlib.Core.Path.{◌∙◌}
+use Rattle.packed.specs.Packed.{bits_from}
+use Rattle.points.specs.Constellations.{level_i, level_q}
+use Rattle.symbols.proofs.Writings.{written_ours}
 use Rattle.symbols.proofs.scheme.Scheme.write.Goals as goal
 
 pub returns : goal.returns
 returns c =
-    let i = c.args.i.now in
-    let q = c.args.q.now in
-    let ready = good_readable (looked_at c.args.self.long c.args.self.within) 1 i q ∙ sym c.room.ensures ∙ c.if-not-room.false in
-    rw ready (ap (λ front. front ++ drop 256 i) c.put_points.ensures.0, ap (λ front. front ++ drop 256 q) c.put_points.ensures.1)
+    let a = c.args in
+    let i = a.i.now in
+    let q = a.q.now in
+    let bits = bits_from 41 0 a.bits.now in (
+      c.write_in.ensures.0 ∙ written_ours level_i c.cell_table.ensures a.self.entries.now bits i q i,
+      c.write_in.ensures.1 ∙ written_ours level_q c.cell_table.ensures a.self.entries.now bits i q q,
+    )
