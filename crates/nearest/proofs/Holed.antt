@@ -14,6 +14,7 @@ use borrow.Author.Tests.{ltb-true, ltb-false, eq-eqb, ne_eqb, eqb-true}
 use Rattle.points.specs.declared.Point.{Point}
 use Rattle.points.specs.declared.Point.TheVariants.{At}
 use Rattle.points.specs.Constellations.{points, point_of}
+use Rattle.points.specs.Lent.{our_quadrants}
 use Rattle.nearest.specs.declared.holes.Candidate.{Candidate}
 use Rattle.nearest.specs.Nearest.{Nearest}
 use Rattle.nearest.specs.Axes.{raised, width_of, stretch_of, beyond_of, level_in, is_hole, off_of, far_of, key_of, candidate_of, lesser, least_of, standing, round_line, beside_hole, on_none, in_holed}
@@ -114,10 +115,10 @@ module _ (n : ℕ) (charted : Charted n) (odd : n % 2 ≡ 1) (i q : ℤ) (hi : n
   far_to j k = far_of w x y j k
 
   abbrev at : ℕ → ℕ → Candidate
-  at j k = candidate_of n w x y j k
+  at j k = candidate_of our_quadrants n w x y j k
 
   abbrev key_at : ℕ → ℕ → ℕ
-  key_at j k = key_of n w x y j k
+  key_at j k = key_of our_quadrants n w x y j k
 
   key_hole : (j k : ℕ) → is_hole j k ≡ true → key_at j k ≡ 2 ^ 63
   key_hole j k h = rw h
@@ -261,7 +262,7 @@ module _ (n : ℕ) (charted : Charted n) (odd : n % 2 ≡ 1) (i q : ℤ) (hi : n
           (only_j e a s.low_j) (only_k f b s.low_k)
 
   -- on no line, in a hole
-  beside : j2 ≡ j → k2 ≡ k → is_hole j k ≡ true → Found (beside_hole n w x y j k)
+  beside : j2 ≡ j → k2 ≡ k → is_hole j k ≡ true → Found (beside_hole our_quadrants n w x y j k)
   beside e f hole = found m among cover
     where
       m : Candidate
@@ -356,7 +357,7 @@ module _ (n : ℕ) (charted : Charted n) (odd : n % 2 ≡ 1) (i q : ℤ) (hi : n
   alike_k d (inl e) = ap (off_of w y) e
   alike_k d (inr e) = ap (off_of w y) e ∙ beyond_near w y charted.two charted.most
 
-  rounded : OnLine w x j ⊎ OnLine w y k → Found (round_line n w x y j k j2 k2)
+  rounded : OnLine w x j ⊎ OnLine w y k → Found (round_line our_quadrants n w x y j k j2 k2)
   rounded o = found m among cover
     where
       m : Candidate
@@ -418,9 +419,9 @@ module _ (n : ℕ) (charted : Charted n) (odd : n % 2 ≡ 1) (i q : ℤ) (hi : n
   on_some (inr o) = and_false (eqb j j2) (eqb k k2) (off_line k k2 o.some o.before)
 
   abbrev chosen : Bool → Bool → Point
-  chosen none hole = cond none (cond hole (beside_hole n w x y j k) (At (level_in w j) (level_in w k))) (round_line n w x y j k j2 k2)
+  chosen none hole = cond none (cond hole (beside_hole our_quadrants n w x y j k) (At (level_in w j) (level_in w k))) (round_line our_quadrants n w x y j k j2 k2)
 
-  any : Found (in_holed n x y)
+  any : Found (in_holed our_quadrants n x y)
   unfolding in_holed
   any = by (line_cases w x j) (line_cases w y k)
     where
@@ -438,6 +439,6 @@ module _ (n : ℕ) (charted : Charted n) (odd : n % 2 ≡ 1) (i q : ℤ) (hi : n
 
 -- in a square with holes what the code decides is the nearest point
 pub holed_near : (n : ℕ) → Charted n → 2 ≤ n → n ≤ 10 → n % 2 ≡ 1 → (i q : ℤ) → nat_abs i ≤ 32768 → nat_abs q ≤ 32768
-    → (l : ℕ) × Nearest (points n) i q l × (in_holed n (raised i) (raised q) ≡ point_of n l)
+    → (l : ℕ) × Nearest (points n) i q l × (in_holed our_quadrants n (raised i) (raised q) ≡ point_of n l)
 unfolding Found
 holed_near n charted _ _ odd i q hi hq = any n charted odd i q hi hq

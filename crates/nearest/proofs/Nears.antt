@@ -10,11 +10,11 @@ use native.Mathlib.Omega.{arith}
 use lib.Dec.{eqb}
 use lib.IntN.{ℤ, nat_abs}
 use lib.ListN.{length}
-use borrow.Author.Tests.{eqb-true, eqb-false, eq-eqb, ne_eqb, le-leb, lt-leb}
+use borrow.Author.Tests.{eqb-true, eqb-false, le-leb, lt-leb}
 use Rattle.points.specs.declared.Point.{Point}
 use Rattle.points.specs.declared.Point.TheVariants.{Nothing}
 use Rattle.points.specs.Constellations.{points, point_of}
-use Rattle.points.specs.Lent.{quarter_of}
+use Rattle.points.specs.Lent.{quarter_of, our_quadrants}
 use Rattle.points.proofs.Lending.{count}
 use Rattle.nearest.specs.Nearest.{nearest}
 use Rattle.nearest.specs.Axes.{raised, in_square, in_eight, in_holed, nearest_in}
@@ -38,14 +38,14 @@ unfolding quarter_of
 too_many n h = count n ∙ rw (le-leb 2 n (omega arith), lt-leb n 10 h)
 
 -- the nearest of 8QAM
-pub eight_ours : (i q : ℤ) → nat_abs i ≤ 32768 → nat_abs q ≤ 32768 → in_eight (raised i) (raised q) ≡ nearest (points 3) i q
+eight_ours : (i q : ℤ) → nat_abs i ≤ 32768 → nat_abs q ≤ 32768 → in_eight (raised i) (raised q) ≡ nearest (points 3) i q
 unfolding point_of
 eight_ours i q hi hq = let at = eight_near i q hi hq in at.2 ∙ sym (nearest_point at.1)
 
 module _ (n : ℕ) (i q : ℤ) (hi : nat_abs i ≤ 32768) (hq : nat_abs q ≤ 32768) where
   -- with an odd number of bits: 8QAM, or another
   abbrev odds : Bool → Point
-  odds three = cond three (in_eight (raised i) (raised q)) (in_holed n (raised i) (raised q))
+  odds three = cond three (in_eight (raised i) (raised q)) (in_holed our_quadrants n (raised i) (raised q))
 
   holed : 2 ≤ n → n ≤ 10 → n % 2 ≢ 0 → odds (eqb n 3) ≡ nearest (points n) i q
   unfolding point_of
@@ -72,31 +72,11 @@ module _ (n : ℕ) (i q : ℤ) (hi : nat_abs i ≤ 32768) (hq : nat_abs q ≤ 32
           square_label n c even (raised i) (raised q) ∙ sym (nearest_point (square_near n c even i q hi hq))
       by false e = holed low high (eqb-false (n % 2) 0 e)
 
-  pub near_ours : nearest_in n i q ≡ nearest (points n) i q
+  pub near_ours : nearest_in our_quadrants n i q ≡ nearest (points n) i q
   unfolding nearest_in
   near_ours = by (dec_le 2 n) (dec_le n 10)
     where
-      by : Dec (2 ≤ n) → Dec (n ≤ 10) → nearest_in n i q ≡ nearest (points n) i q
+      by : Dec (2 ≤ n) → Dec (n ≤ 10) → nearest_in our_quadrants n i q ≡ nearest (points n) i q
       by (yes low) (yes high) = rw (le-leb 2 n low, le-leb n 10 high) (within low high)
       by (yes low) (no high) = rw (le-leb 2 n low, lt-leb n 10 (omega arith)) (sym (none_near (points n) i q (too_many n (omega arith))))
       by (no low) high = rw (lt-leb 2 n (omega arith)) (sym (none_near (points n) i q (too_few n (omega arith))))
-
-  -- by each of the ways to decide
-  pub square_ours : 2 ≤ n → n ≤ 10 → n % 2 ≡ 0 → in_square n (raised i) (raised q) ≡ nearest (points n) i q
-  unfolding nearest_in
-  square_ours low high even = rw (le-leb 2 n low, le-leb n 10 high, eq-eqb (n % 2) 0 even) at near_ours
-
-  pub holed_ours : 2 ≤ n → n ≤ 10 → n % 2 ≢ 0 → n ≢ 3 → in_holed n (raised i) (raised q) ≡ nearest (points n) i q
-  unfolding nearest_in
-  holed_ours low high odd other = rw (le-leb 2 n low, le-leb n 10 high, ne_eqb (n % 2) 0 odd, ne_eqb n 3 other) at near_ours
-
-  pub none_ours : (2 ≤ n → n ≤ 10 → ⊥) → Nothing ≡ nearest (points n) i q
-  none_ours unknown = by (dec_le 2 n)
-    where
-      by : Dec (2 ≤ n) → Nothing ≡ nearest (points n) i q
-      by (yes low) = sym (none_near (points n) i q (too_many n (let high : 11 ≤ n = below (dec_le n 10) in high)))
-        where
-          below : Dec (n ≤ 10) → 11 ≤ n
-          below (yes high) = absurd (unknown low high)
-          below (no high) = omega arith
-      by (no low) = sym (none_near (points n) i q (too_few n (omega arith)))

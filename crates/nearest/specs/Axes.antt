@@ -1,5 +1,5 @@
--- How the code decides: by the two axes, and not by a walk through the table.
--- It comes to `nearest` (proofs/Nears, proofs/Phases), so that nobody has to believe anything here.
+-- How the code decides, whatever table it is lent: by the two axes, and not by a walk through the table.
+-- With our table it comes to `nearest` (proofs/Nears, proofs/Phases), so that nobody has to believe anything here.
 -- What came in is raised by 32768, so that it is not negative. An axis has w levels, 2 apart: in sixty-fourths each has a stretch of 128, with the level in its
 -- middle, and on the line between two stretches both levels are as near. The first and the last stretch reach out to where numbers end.
 -- Assumes nothing.
@@ -8,7 +8,7 @@ use Rattle.std.proofs.Math.IntN.{sub_ℕ}
 use Rattle.points.specs.declared.Point.{Point}
 use Rattle.points.specs.declared.Point.TheVariants.{At, Nothing}
 use Rattle.points.specs.Constellations.{point_of}
-use Rattle.points.specs.Lent.{read_in, our_quadrants}
+use Rattle.points.specs.Lent.{read_in}
 use Rattle.nearest.specs.declared.holes.Candidate.{Candidate}
 
 -- ---- an axis
@@ -64,11 +64,11 @@ abbrev pub far_of : ℕ → ℕ → ℕ → ℕ → ℕ → ℕ
 far_of w x y j k = off_of w x j * off_of w x j + off_of w y k * off_of w y k
 
 -- distance first, then label; in a hole more than any
-abbrev pub key_of : ℕ → ℕ → ℕ → ℕ → ℕ → ℕ → ℕ
-key_of n w x y j k = cond (is_hole j k) (2 ^ 63) (1024 * far_of w x y j k + read_in our_quadrants n (level_in w j) (level_in w k))
+abbrev pub key_of : List ℕ → ℕ → ℕ → ℕ → ℕ → ℕ → ℕ → ℕ
+key_of quadrants n w x y j k = cond (is_hole j k) (2 ^ 63) (1024 * far_of w x y j k + read_in quadrants n (level_in w j) (level_in w k))
 
-abbrev pub candidate_of : ℕ → ℕ → ℕ → ℕ → ℕ → ℕ → Candidate
-candidate_of n w x y j k = record { key = key_of n w x y j k; i = level_in w j; q = level_in w k }
+abbrev pub candidate_of : List ℕ → ℕ → ℕ → ℕ → ℕ → ℕ → ℕ → Candidate
+candidate_of quadrants n w x y j k = record { key = key_of quadrants n w x y j k; i = level_in w j; q = level_in w k }
 
 -- the lesser key, and of four the least
 abbrev pub lesser : Candidate → Candidate → Candidate
@@ -81,30 +81,30 @@ abbrev pub standing : Candidate → Point
 standing a = At a.i a.q
 
 -- the four round a line or two
-abbrev pub round_line : ℕ → ℕ → ℕ → ℕ → ℕ → ℕ → ℕ → ℕ → Point
-round_line n w x y j k j2 k2 =
-    let at = candidate_of n w x y in
+abbrev pub round_line : List ℕ → ℕ → ℕ → ℕ → ℕ → ℕ → ℕ → ℕ → ℕ → Point
+round_line quadrants n w x y j k j2 k2 =
+    let at = candidate_of quadrants n w x y in
     standing (least_of (at j k) (at j2 k) (at j k2) (at j2 k2))
 
 -- the four beside a hole
-abbrev pub beside_hole : ℕ → ℕ → ℕ → ℕ → ℕ → ℕ → Point
-beside_hole n w x y j k =
-    let at = candidate_of n w x y in
+abbrev pub beside_hole : List ℕ → ℕ → ℕ → ℕ → ℕ → ℕ → ℕ → Point
+beside_hole quadrants n w x y j k =
+    let at = candidate_of quadrants n w x y in
     standing (least_of (at (j - 1) k) (at (j + 1) k) (at j (k - 1)) (at j (k + 1)))
 
 abbrev pub on_none : ℕ → ℕ → ℕ → ℕ → Bool
 on_none j k j2 k2 = eqb j j2 && eqb k k2
 
-unfoldable pub in_holed : ℕ → ℕ → ℕ → Point
-in_holed n x y =
+unfoldable pub in_holed : List ℕ → ℕ → ℕ → ℕ → Point
+in_holed quadrants n x y =
     let w = width_of n in
     let j = stretch_of w x in
     let k = stretch_of w y in
     let j2 = beyond_of w x j in
     let k2 = beyond_of w y k in
     cond (on_none j k j2 k2)
-    (cond (is_hole j k) (beside_hole n w x y j k) (At (level_in w j) (level_in w k)))
-    (round_line n w x y j k j2 k2)
+    (cond (is_hole j k) (beside_hole quadrants n w x y j k) (At (level_in w j) (level_in w k)))
+    (round_line quadrants n w x y j k j2 k2)
 
 -- ---- 8QAM, which is one hole and the eight points round it
 
@@ -133,12 +133,12 @@ in_eight x y = point_of 3 (least_key x y % 8)
 
 -- ---- any of the nine
 
--- the nearest point of n bits: nothing, unless n is 2 to 10
-unfoldable pub nearest_in : ℕ → ℤ → ℤ → Point
-nearest_in n i q =
+-- the nearest point of n bits by a table of quadrants (points/specs/Lent): nothing, unless n is 2 to 10
+unfoldable pub nearest_in : List ℕ → ℕ → ℤ → ℤ → Point
+nearest_in quadrants n i q =
     cond (leb 2 n && leb n 10)
     (cond (eqb (n % 2) 0) (in_square n (raised i) (raised q))
-    (cond (eqb n 3) (in_eight (raised i) (raised q)) (in_holed n (raised i) (raised q))))
+    (cond (eqb n 3) (in_eight (raised i) (raised q)) (in_holed quadrants n (raised i) (raised q))))
     Nothing
 
 -- ---- DQPSK

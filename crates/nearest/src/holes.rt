@@ -27,42 +27,42 @@ struct Sought {
 
 impl Sought {
     // The nearest of the four points beside a hole.
-    fn beside_hole(self, j: u16, k: u16) -> Point
+    fn beside_hole(self, quadrants: &[u64; 128], j: u16, k: u16) -> Point
         requires { (1 ≤ j) × (1 ≤ k) × (j + 1 < self.axis.width) × (k + 1 < self.axis.width) }
-        ensures { result ≡ beside_hole self.axis.bits self.axis.width self.x self.y j k }
+        ensures { result ≡ beside_hole quadrants.now self.axis.bits self.axis.width self.x self.y j k }
     {
         least(
-            self.weighed(j - 1, k),
-            self.weighed(j + 1, k),
-            self.weighed(j, k - 1),
-            self.weighed(j, k + 1),
+            self.weighed(quadrants, j - 1, k),
+            self.weighed(quadrants, j + 1, k),
+            self.weighed(quadrants, j, k - 1),
+            self.weighed(quadrants, j, k + 1),
         )
     }
 
     // The nearest of those round a line, or round two.
-    fn round_line(self, j: u16, k: u16, j2: u16, k2: u16) -> Point
+    fn round_line(self, quadrants: &[u64; 128], j: u16, k: u16, j2: u16, k2: u16) -> Point
         requires { (j < self.axis.width) × (k < self.axis.width) × (j2 < self.axis.width) × (k2 < self.axis.width) }
-        ensures { result ≡ round_line self.axis.bits self.axis.width self.x self.y j k j2 k2 }
+        ensures { result ≡ round_line quadrants.now self.axis.bits self.axis.width self.x self.y j k j2 k2 }
     {
         least(
-            self.weighed(j, k),
-            self.weighed(j2, k),
-            self.weighed(j, k2),
-            self.weighed(j2, k2),
+            self.weighed(quadrants, j, k),
+            self.weighed(quadrants, j2, k),
+            self.weighed(quadrants, j, k2),
+            self.weighed(quadrants, j2, k2),
         )
     }
 
     // The point of two stretches, with its key.
-    fn weighed(self, j: u16, k: u16) -> Candidate
+    fn weighed(self, quadrants: &[u64; 128], j: u16, k: u16) -> Candidate
         requires { (j < self.axis.width) × (k < self.axis.width) }
-        ensures { result ≡ candidate_of self.axis.bits self.axis.width self.x self.y j k }
+        ensures { result ≡ candidate_of quadrants.now self.axis.bits self.axis.width self.x self.y j k }
     {
         let i = self.axis.level(j);
         let q = self.axis.level(k);
         if is_hole(j, k) {
             return Candidate { key: HOLE, i, q };
         }
-        let label = u64::from(constellation::read(self.axis.bits, i, q));
+        let label = u64::from(constellation::read_in(quadrants, self.axis.bits, i, q));
         Candidate {
             key: 1024 * far(self.axis.off(self.x, j), self.axis.off(self.y, k)) + label,
             i,
@@ -71,10 +71,10 @@ impl Sought {
     }
 }
 
-// The nearest point.
-pub(crate) fn nearest(axis: Axis, x: u16, y: u16) -> Point
+// The nearest point, by the table that is lent.
+pub(crate) fn nearest(quadrants: &[u64; 128], axis: Axis, x: u16, y: u16) -> Point
     requires { axis.bits % 2 ≡ 1 }
-    ensures { result ≡ in_holed axis.bits x y }
+    ensures { result ≡ in_holed quadrants.now axis.bits x y }
 {
     let sought = Sought { axis, x, y };
     let j = axis.stretch(x);
@@ -82,10 +82,10 @@ pub(crate) fn nearest(axis: Axis, x: u16, y: u16) -> Point
     let j2 = axis.beyond(x, j);
     let k2 = axis.beyond(y, k);
     if j != j2 || k != k2 {
-        return sought.round_line(j, k, j2, k2);
+        return sought.round_line(quadrants, j, k, j2, k2);
     }
     if is_hole(j, k) {
-        return sought.beside_hole(j, k);
+        return sought.beside_hole(quadrants, j, k);
     }
     Point::At {
         i: axis.level(j),

@@ -11,7 +11,7 @@ ghost use Rattle.std.specs.Prelude.{◌≡◌};
 ghost use Rattle.points.specs.Constellations.{points};
 ghost use Rattle.points.specs.Dqpsk.{phases};
 ghost use Rattle.nearest.specs.Nearest.{nearest};
-ghost use Rattle.nearest.specs.Axes.{is_upright};
+ghost use Rattle.nearest.specs.Axes.{is_upright, nearest_in};
 
 mod axis;
 mod eight;
@@ -19,18 +19,25 @@ mod holes;
 mod square;
 
 use axis::Axis;
-use points::Point;
+use points::{Point, constellation};
 
 // The nearest point of so many bits: nothing, unless they are 2 to 10.
 pub fn point(bits: u8, i: i16, q: i16) -> Point
     ensures { result ≡ nearest (points bits) i q }
+{
+    point_in(constellation::quadrant_table(), bits, i, q)
+}
+
+// The nearest point of so many bits, by the table that is lent (points' `quadrants`): nothing, unless they are 2 to 10.
+pub fn point_in(quadrants: &[u64; 128], bits: u8, i: i16, q: i16) -> Point
+    ensures { result ≡ nearest_in quadrants.now bits i q }
 {
     let x = axis::raised(i);
     let y = axis::raised(q);
     match bits {
         3 => eight::nearest(x, y),
         2 | 4 | 6 | 8 | 10 => square::nearest(Axis::of_even(bits), x, y),
-        5 | 7 | 9 => holes::nearest(Axis::of_odd(bits), x, y),
+        5 | 7 | 9 => holes::nearest(quadrants, Axis::of_odd(bits), x, y),
         _ => Point::Nothing,
     }
 }
