@@ -46,11 +46,11 @@ pub fn receive_b(
 pub fn open_b(mode: u8, size: usize, scheme: &[u8]) -> State
     ensures { OpeningB mode size scheme.now result }
 {
-    let mut kept = [0; POINTS];
     match plan::judged(mode, size, scheme) {
-        Err(why) => stream_b::with_scheme(kept, step::stopped(why, step::unseen(0, 0))),
+        Err(why) => stream_b::with_scheme([0; POINTS], step::stopped(why, step::unseen(0, 0))),
         Ok(_) => {
-            kept.copy_from_slice(scheme);
+            let mut kept = [0; POINTS];
+            kept.copy_from_slice(&scheme[..POINTS]);
             stream_b::with_scheme(kept, step::unseen(mode, size))
         }
     }
