@@ -21,7 +21,9 @@ impl Held {
         if whole { self.n } else { self.k }
     }
 
-    // The remainders by the generator that words are taken in by.
+    // The remainders by the generator that words are taken in by. A call of its own: in line, the compiler would keep the three addresses as data that can be
+    // written, and the archive for C is to have none.
+    #[inline(never)]
     pub fn table(&self) -> &'static [u64; 192]
         ensures { result.now ≡ table_of self.now }
     {

@@ -216,7 +216,7 @@ fn answer_of(t: Told) -> Answer
     }
 }
 
-// All that an answer of receiving tells. Its name has to come before `ortkaveq_`: DECISIONS 92.
+// All that an answer of receiving tells.
 fn all_told(t: Told) -> Received
     requires { (t.mended < 2 ^ 16) × (t.protected < 2 ^ 16) × (t.worst < 2 ^ 16) }
     ensures { result ≡ received_of t }

@@ -9,6 +9,7 @@ pub mod DigitTables
 pub mod Horners
 pub mod Squares
 pub mod PackedWords
+pub mod Lent
 pub mod OneBit
 pub mod Marking
 pub mod LowestDigits

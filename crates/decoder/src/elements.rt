@@ -5,18 +5,19 @@ ghost use Rattle.answers.specs.Checks.{passes};
 ghost use Rattle.bits.specs.Words.{Bits};
 ghost use Rattle.bits.specs.Places.{flipped_at};
 ghost use Rattle.bch.specs.Promise.{Decodes};
-ghost use Rattle.bch.specs.Held.{code_of, Fitting, Tabled};
+ghost use Rattle.bch.specs.Held.{code_of, Fitting};
+ghost use Rattle.decoder.specs.Candidates.{Ready};
 
 use crate::mending;
 use answers::{DecodedWord, PLACES};
 use bch::code::Held;
 
 // The word's answer, and the codeword written where there is one.
-pub(crate) fn answer(c: Held, word: &[u8], out: &mut [u8]) -> DecodedWord
-    requires { Fitting c c.n word.now out.old × Tabled c }
+pub(crate) fn answer(table: &[u64; 192], c: Held, word: &[u8], out: &mut [u8]) -> DecodedWord
+    requires { Fitting c c.n word.now out.old × Ready c table.now }
     ensures { Decodes (passes (code_of c)) word.now out.old result out.new }
 {
-    let mended = mending::answer(c, packed::pack(word));
+    let mended = mending::answer(table, c, packed::pack(word));
     let told = mended.told;
     match told.answer {
         Ok(count) => {

@@ -39,7 +39,7 @@ pub fn decode(code: u8, word: &[u8], out: &mut [u8]) -> DecodedWord
     ensures { Decoding code word.now out.old result out.new }
 {
     match checks::judged(code, true, word, out) {
-        Ok(c) => elements::answer(c, word, out),
+        Ok(c) => elements::answer(c.table(), c, word, out),
         Err(why) => answers::no_word(why),
     }
 }
@@ -50,7 +50,7 @@ pub fn decode_packed(code: u8, words: [u64; 8]) -> DecodedPacked
     ensures { DecodingPacked code words result.told result.bits }
 {
     match code::of_number(code) {
-        Some(c) => mending::answer(c, packed::first(&words, c.n)),
+        Some(c) => mending::answer(c.table(), c, packed::first(&words, c.n)),
         None => mending::nothing(Refusal::Unknown),
     }
 }

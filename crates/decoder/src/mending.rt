@@ -1,14 +1,15 @@
 // One packed word of a code that is held: itself where it is a codeword, else a copy with places flipped.
 ghost use Rattle.std.specs.Prelude.{◌≡◌, [], ◌∷◌, ◌-◌, ◌*◌, ◌<◌, replicate, Ok};
 ghost use Rattle.answers.specs.Answers.{listed, no_word};
+ghost use Rattle.bch.specs.Held.{Sound};
 ghost use Rattle.bch.specs.Registers.{contents, tops};
-ghost use Rattle.bch.specs.Held.{table_of};
 ghost use Rattle.packed.specs.Packed.{bits512};
 ghost use Rattle.decoder.specs.Candidates.{leftover, word_of, Clear, Ready, Single, Several, Settles, DecodesPacked};
 ghost use Rattle.decoder.specs.Syndromes.{Syndromes};
 
-// Ready c (table_of c) and Clear c words stand in each contract: a copy is another word of its code, so that a struct that carries both facts would be
-// built, and both shown, at each step all the same.
+// The table is lent beside its code, so that all of this holds of any sound code; `decode` and `decode_packed` lend the constant one (`Held::table`).
+// `Clear c words` stands wherever a word is read: a copy is another word, so that a struct that carries the fact would have to be built, and the fact shown, at
+// each step all the same.
 use crate::search::Flips;
 use crate::{DecodedPacked, locator, search, syndrome};
 use answers::{DecodedWord, PLACES, Refusal};
@@ -17,23 +18,23 @@ use bch::register::Register;
 
 // The remainder of the whole word: that of its first k bits, and the other bits added. Of an entry of the table, the machine words below the highest are
 // read that a remainder of n - k digits reaches into.
-fn leftover(c: Held, words: &[u64; 8]) -> Register
-    requires { Ready c (table_of c) × Clear c words.now }
+fn leftover(table: &[u64; 192], c: Held, words: &[u64; 8]) -> Register
+    requires { Ready c table.now × Clear c words.now }
     ensures { contents result ≡ leftover c (word_of c words.now) }
 {
-    remainders::leftover(c.table(), (c.n - c.k - 1) / 64, c.k, words)
+    remainders::leftover(table, (c.n - c.k - 1) / 64, c.k, words)
 }
 
 // The word itself where it is a codeword, else a copy with places flipped, if one is found that is.
-pub(crate) fn answer(c: Held, words: [u64; 8]) -> DecodedPacked
-    requires { Ready c (table_of c) × Clear c words }
+pub(crate) fn answer(table: &[u64; 192], c: Held, words: [u64; 8]) -> DecodedPacked
+    requires { Ready c table.now × Clear c words }
     ensures { DecodesPacked c words result }
 {
-    let left = leftover(c, &words);
+    let left = leftover(table, c, &words);
     if left.is_zero() {
         return unchanged(words);
     }
-    mend(c, left, words)
+    mend(table, c, left, words)
 }
 
 // Nothing is mended.
@@ -60,15 +61,15 @@ pub(crate) fn nothing(why: Refusal) -> DecodedPacked
 }
 
 // A copy with one place flipped, if that is a codeword; else the one with the places flipped that the locator gives.
-fn mend(c: Held, left: Register, words: [u64; 8]) -> DecodedPacked
-    requires { Ready c (table_of c) × Clear c words × (contents left ≡ leftover c (word_of c words)) }
+fn mend(table: &[u64; 192], c: Held, left: Register, words: [u64; 8]) -> DecodedPacked
+    requires { Ready c table.now × Clear c words × (contents left ≡ leftover c (word_of c words)) }
     ensures { DecodesPacked c words result }
 {
     let s = syndrome::syndromes(left, c.n - c.k, c.t);
-    if let Some(mended) = single(c, &s, words) {
+    if let Some(mended) = single(table, c, &s, words) {
         return mended;
     }
-    if let Some(mended) = several(c, &s, words) {
+    if let Some(mended) = several(table, c, &s, words) {
         return mended;
     }
     nothing(Refusal::Uncorrectable(0))
@@ -77,8 +78,8 @@ fn mend(c: Held, left: Register, words: [u64; 8]) -> DecodedPacked
 // One hit at a^e makes the syndromes a^e, a^2e, a^3e, ..: where the first three say so, that place is flipped and the copy looked at. It is
 // the answer if it is a codeword, whatever the other syndromes are. Each code mends more than one, which nothing that is known of c says: so it
 // is asked.
-fn single(c: Held, s: &[u16; 32], words: [u64; 8]) -> Option<DecodedPacked>
-    requires { Ready c (table_of c) × Clear c words }
+fn single(table: &[u64; 192], c: Held, s: &[u16; 32], words: [u64; 8]) -> Option<DecodedPacked>
+    requires { Ready c table.now × Clear c words }
     ensures { Single c words result }
 {
     let e = field::logarithm(s[0])?;
@@ -86,7 +87,7 @@ fn single(c: Held, s: &[u16; 32], words: [u64; 8]) -> Option<DecodedPacked>
         return None;
     }
     let place = c.n - 1 - e;
-    settle(c, one(place), packed::flipped(&words, place))
+    settle(table, c, one(place), packed::flipped(&words, place))
 }
 
 // One place flipped.
@@ -100,8 +101,8 @@ fn one(place: usize) -> Flips
 }
 
 // A copy with the places flipped that the locator gives, if that is a codeword; none where the locator is longer than t.
-fn several(c: Held, s: &[u16; 32], words: [u64; 8]) -> Option<DecodedPacked>
-    requires ready { Ready c (table_of c) × Clear c words }
+fn several(table: &[u64; 192], c: Held, s: &[u16; 32], words: [u64; 8]) -> Option<DecodedPacked>
+    requires ready { Ready c table.now × Clear c words }
     requires known { Syndromes (tops (c.n - c.k) (leftover c (word_of c words))) (c.t * 2) s.now }
     ensures { Several c words result }
 {
@@ -110,15 +111,15 @@ fn several(c: Held, s: &[u16; 32], words: [u64; 8]) -> Option<DecodedPacked>
         return None;
     }
     let flipped = search::flip(&found.locator, found.len, c.n, &words);
-    settle(c, flipped.flips, flipped.copy)
+    settle(table, c, flipped.flips, flipped.copy)
 }
 
 // The copy, and what was flipped there, if it is a codeword.
-fn settle(c: Held, flips: Flips, copy: [u64; 8]) -> Option<DecodedPacked>
-    requires { Ready c (table_of c) × Clear c copy }
+fn settle(table: &[u64; 192], c: Held, flips: Flips, copy: [u64; 8]) -> Option<DecodedPacked>
+    requires { Ready c table.now × Clear c copy }
     ensures { Settles c flips copy result }
 {
-    if leftover(c, &copy).is_zero() {
+    if leftover(table, c, &copy).is_zero() {
         // By a variable: a field that is an array, straight in a literal, has no proof ("the borrow checker does not cover this function yet").
         let places = flips.places;
         return Some(DecodedPacked {
@@ -130,4 +131,42 @@ fn settle(c: Held, flips: Flips, copy: [u64; 8]) -> Option<DecodedPacked>
         });
     }
     None
+}
+
+#[cfg(test)]
+mod tests {
+    use super::answer;
+    use crate::DecodedPacked;
+    use answers::Refusal;
+    use bch::code::Held;
+    use bch::register;
+    use bch::register::Register;
+
+    // A word of any sound code: the table is made.
+    fn of_any(c: Held, words: [u64; 8]) -> DecodedPacked
+        requires { Sound c × Clear c words }
+        ensures { DecodesPacked c words result }
+    {
+        answer(&register::table(c.generator), c, words)
+    }
+
+    // With the generator and the places of code 1, to mend 3 and not 4: such a code has no number, and `Held::table` gives another code's table for it.
+    #[test]
+    fn mends_three(rt: HostRuntime) {
+        let c = Held {
+            n: 508,
+            k: 472,
+            t: 3,
+            generator: Register {
+                high: 0xcc2b_989a_1000_0000,
+                mid: 0,
+                low: 0,
+            },
+        };
+        let three = of_any(c, packed::first(&[1, 2, 0, 0, 0, 4, 0, 0], c.n));
+        assert_eq!(rt; three.told.answer, Ok(3));
+        assert_eq!(rt; three.bits, [0; 8]);
+        let four = of_any(c, packed::first(&[1, 2, 0, 8, 0, 4, 0, 0], c.n));
+        assert_eq!(rt; four.told.answer, Err(Refusal::Uncorrectable(0)));
+    }
 }

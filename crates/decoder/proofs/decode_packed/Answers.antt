@@ -8,7 +8,7 @@ use Rattle.decoder.proofs.decode_packed.Goals as goal
 pub answer-requires : goal.answer-requires
 answer-requires c =
     let holds = c.in-Some.ensures in
-    (ready holds.0 (tabled c.args.code _ holds.0 holds.1), first_clear holds.0 _ _ c.first.ensures)
+    (rw c.table.ensures (ready holds.0 (tabled c.args.code _ holds.0 holds.1)), first_clear holds.0 _ _ c.first.ensures)
 
 pub returns-in-Some : goal.returns-in-Some
 returns-in-Some c =

@@ -6,4 +6,4 @@ use Rattle.encoder.proofs.encode.Goals as goal
 pub write-requires : goal.write-requires
 write-requires c =
     let judged = c.in_ok-c.ensures in
-    (judged.0, judged_tabled c.args.code _ judged.0.sound _ _ _ judged.1)
+    (judged.0, rw c.table.ensures (judged_tabled c.args.code _ judged.0.sound _ _ _ judged.1))

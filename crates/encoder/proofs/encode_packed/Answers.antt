@@ -7,7 +7,7 @@ use Rattle.encoder.proofs.encode_packed.Goals as goal
 pub codeword-requires : goal.codeword-requires
 codeword-requires c =
     let holds = rw c.in-Some.is at c.of_number.ensures in
-    (holds.0, tabled c.args.code _ holds.0 holds.1, first_clear holds.0 _ _ c.first.ensures)
+    (holds.0, rw c.table.ensures (tabled c.args.code _ holds.0 holds.1), first_clear holds.0 _ _ c.first.ensures)
 
 pub returns-in-Some : goal.returns-in-Some
 returns-in-Some c =

@@ -3,11 +3,10 @@
 use mathlib.Core.Logic.{inl}
 use native.Mathlib.Omega.{arith}
 use Rattle.decoder.proofs.Entries.{elements_clear, elements_answered, elements_refused, few_listed, all_listed, listed_inside, mended_written}
-use Rattle.decoder.proofs.PackedWords.{ready}
 use Rattle.decoder.proofs.elements.answer.Goals as goal
 
 pub answer-mended-requires : goal.answer-mended-requires
-answer-mended-requires c = (ready c.requires.0.sound c.requires.1, elements_clear c.requires.0 c.pack.result c.pack.ensures)
+answer-mended-requires c = (c.requires.1, elements_clear c.requires.0 c.pack.result c.pack.ensures)
 
 pub write-requires : goal.write-requires
 write-requires c =

@@ -5,4 +5,4 @@ use Rattle.decoder.proofs.PackedWords.{left_by}
 use Rattle.decoder.proofs.mending.leftover.Goals as goal
 
 pub returns : goal.returns
-returns c = rw c.table.ensures at c.leftover.ensures ∙ left_by c.requires.0 c.args.words.now c.requires.1
+returns c = c.leftover.ensures ∙ left_by c.requires.0 c.args.words.now c.requires.1
